@@ -1,0 +1,3 @@
+-- What is proved of the ground floor's definitions.
+pub mod Decides
+pub mod Lowest

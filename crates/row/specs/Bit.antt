@@ -1,0 +1,29 @@
+-- A word as a row of bits, bit 0 the lowest.
+use mathlib.Core.Path.{_≡_}
+use mathlib.Core.Bool.{Bool}
+use mathlib.Core.List.{List, [], _∷_}
+use Prim.Native.Nat.{ℕ, _+_, _/_, _%_, _^_, _<_}
+use lib.Count.{ones}
+use lib.Dec.{eqb}
+use lib.ListN.{getD}
+
+-- bit k of the word n is set
+pub record Has (n k : ℕ) : Type 0 where
+  pub bit : n / 2 ^ k % 2 ≡ 1
+
+-- the same as a test
+abbrev pub hasb : ℕ → ℕ → Bool
+hasb w k = eqb (w / 2 ^ k % 2) 1
+
+-- how many bits of the words are set
+abbrev pub total : List ℕ → ℕ
+total [] = 0
+total (w ∷ ws) = ones w + total ws
+
+-- every word has w bits
+abbrev pub Words : ℕ → List ℕ → Type 0
+Words w s = (i : ℕ) → getD s i 0 < 2 ^ w
+
+-- every set bit of s is set in t
+abbrev pub Part : List ℕ → List ℕ → Type 0
+Part s t = (i k : ℕ) → Has (getD s i 0) k → Has (getD t i 0) k

@@ -1,0 +1,9 @@
+-- What is proved of rows of bits, once, over their width.
+pub mod Bit
+pub mod Total
+pub mod Mapped
+pub mod Rows
+pub mod Merge
+pub mod Turn
+pub mod Diagonal
+pub mod Test

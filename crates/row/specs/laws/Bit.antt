@@ -1,0 +1,225 @@
+-- Laws of the bits of a word: |, &, one bit, equality and the count of set bits. Assumes nothing.
+use mathlib.Core.Path.{_≡_, refl, sym, ap, ap₂, _∙_, subst}
+use mathlib.Core.Logic.{_⊎_, inl, inr, ⊎-elim}
+use mathlib.Core.Bool.{true, false}
+use mathlib.Core.List.{List}
+use Prim.Native.Nat.{ℕ, zero, suc, _+_, _*_, _/_, _%_, _^_, _≤_, _<_, min, max}
+use native.Mathlib.Nat.{mod-lt, zero-lt-suc, div-add-mod', zero-max, pow-suc, add-comm, div-eq-of-lt, div-one, lt-of-lt-of-le, lt-of-le-of-lt, mul-div-cancel, zero-div, mul-mod-left, div-self}
+use native.Mathlib.Omega.{arith}
+use native.Mathlib.Decide.{ℕ-discrete, decLt}
+use native.Mathlib.Numerals.{add-one, one-add}
+use borrow.Author.Tests.{eqb-true, eqb-false, eq-eqb}
+use lib.Arith.{digits-mod, lt-one, bin-ind}
+use lib.Pow.{pow-pos, pow-mono, shr-shr, shr-lt}
+use lib.Bits.{and-le-l, bitOr, bitAnd, or-step, and-step, or-shr, and-shr}
+use lib.Count.{ones, ones-step}
+use lib.ListN.{getD}
+use Rattle.row.specs.Bit.{Has, hasb}
+
+two-pos : zero < 2
+two-pos = zero-lt-suc 1
+
+-- whether a bit is set can be told
+pub has? : (n k : ℕ) → Dec (Has n k)
+has? n k = go (ℕ-discrete (n / 2 ^ k % 2) 1)
+  where
+    go : Dec (n / 2 ^ k % 2 ≡ 1) → Dec (Has n k)
+    go (yes e) = yes (record { bit = e })
+    go (no e) = no (λ h. e (h .bit))
+
+-- the test and the fact
+pub hasb-has : (w k : ℕ) → hasb w k ≡ true → Has w k
+hasb-has w k e = record { bit = eqb-true (w / 2 ^ k % 2) 1 e }
+
+pub has-hasb : {w k : ℕ} → Has w k → hasb w k ≡ true
+has-hasb {w} {k} h = eq-eqb (w / 2 ^ k % 2) 1 (h .bit)
+
+pub hasb-not : (w k : ℕ) → hasb w k ≡ false → ¬ (Has w k)
+hasb-not w k e h = eqb-false (w / 2 ^ k % 2) 1 e (h .bit)
+
+-- a bit of an equal word
+pub moved : {x y k : ℕ} → x ≡ y → Has x k → Has y k
+moved {k = k} e h = subst (λ (w : ℕ). Has w k) e h
+
+-- a bit of the word at an equal place
+pub at-place : (s : List ℕ) {i j k : ℕ} → i ≡ j → Has (getD s i 0) k → Has (getD s j 0) k
+at-place s {k = k} e h = subst (λ (x : ℕ). Has (getD s x 0) k) e h
+
+-- a bit of an equal number
+pub at-bit : {w j k : ℕ} → j ≡ k → Has w j → Has w k
+at-bit {w} e h = subst (λ (x : ℕ). Has w x) e h
+
+-- ---- digits 0 and 1
+
+bit-max : (x y : ℕ) → max x y ≡ 1 → (x ≡ 1) ⊎ (y ≡ 1)
+bit-max zero y e = inr (sym (zero-max y) ∙ e)
+bit-max (suc x) y e = go x e
+  where
+    go : (z : ℕ) → max (suc z) y ≡ 1 → (suc z ≡ 1) ⊎ (y ≡ 1)
+    go zero e′ = inl refl
+    go (suc z) e′ = absurd (omega arith)
+
+pub zero-none : {k : ℕ} → ¬ (Has 0 k)
+zero-none {k} h = omega (arith, zero-div (2 ^ k))
+
+-- a word of w bits has no bit from w on
+pub has-lt : (w : ℕ) {n k : ℕ} → n < 2 ^ w → Has n k → k < w
+has-lt w {n} {k} h x = go (decLt k w)
+  where
+    go : Dec (k < w) → k < w
+    go (yes l) = l
+    go (no l) =
+        let le : w ≤ k = omega arith in
+        absurd (omega (arith, x .bit, ap (λ (y : ℕ). y % 2) (div-eq-of-lt (lt-of-lt-of-le h (pow-mono le)))))
+
+-- ---- | and &
+
+or-odd : (a b : ℕ) → bitOr a b % 2 ≡ max (a % 2) (b % 2)
+or-odd a b = ap (λ (x : ℕ). x % 2) (or-step a b) ∙ digits-mod (bitOr (a / 2) (b / 2)) (omega arith)
+
+and-odd : (a b : ℕ) → bitAnd a b % 2 ≡ min (a % 2) (b % 2)
+and-odd a b = ap (λ (x : ℕ). x % 2) (and-step a b) ∙ digits-mod (bitAnd (a / 2) (b / 2)) (omega arith)
+
+or-bit : (a b k : ℕ) → bitOr a b / 2 ^ k % 2 ≡ max (a / 2 ^ k % 2) (b / 2 ^ k % 2)
+or-bit a b k = ap (λ (x : ℕ). x % 2) (or-shr a b k) ∙ or-odd (a / 2 ^ k) (b / 2 ^ k)
+
+and-bit : (a b k : ℕ) → bitAnd a b / 2 ^ k % 2 ≡ min (a / 2 ^ k % 2) (b / 2 ^ k % 2)
+and-bit a b k = ap (λ (x : ℕ). x % 2) (and-shr a b k) ∙ and-odd (a / 2 ^ k) (b / 2 ^ k)
+
+pub has-or : (a b k : ℕ) → Has (bitOr a b) k → Has a k ⊎ Has b k
+has-or a b k h = ⊎-elim (λ e. inl (record { bit = e })) (λ e. inr (record { bit = e })) (bit-max (a / 2 ^ k % 2) (b / 2 ^ k % 2) (sym (or-bit a b k) ∙ h .bit))
+
+pub or-left : (a b k : ℕ) → Has a k → Has (bitOr a b) k
+or-left a b k h = record { bit = omega (arith, or-bit a b k) }
+
+pub or-right : (a b k : ℕ) → Has b k → Has (bitOr a b) k
+or-right a b k h = record { bit = omega (arith, or-bit a b k) }
+
+pub and-has : (a b k : ℕ) → Has a k → Has b k → Has (bitAnd a b) k
+and-has a b k h l = record { bit = omega (arith, and-bit a b k) }
+
+pub and-left : (a b k : ℕ) → Has (bitAnd a b) k → Has a k
+and-left a b k h = record { bit = omega (arith, and-bit a b k) }
+
+pub and-right : (a b k : ℕ) → Has (bitAnd a b) k → Has b k
+and-right a b k h = record { bit = omega (arith, and-bit a b k) }
+
+-- ---- the next digit
+
+half-bit : (n k : ℕ) → n / 2 / 2 ^ k ≡ n / 2 ^ suc k
+half-bit n k = shr-shr n 1 k ∙ ap (λ (x : ℕ). n / 2 ^ x) (one-add k)
+
+pub has-half : (n k : ℕ) → Has n (suc k) → Has (n / 2) k
+has-half n k h = record { bit = ap (λ (x : ℕ). x % 2) (half-bit n k) ∙ h .bit }
+
+pub half-has : (n k : ℕ) → Has (n / 2) k → Has n (suc k)
+half-has n k h = record { bit = ap (λ (x : ℕ). x % 2) (sym (half-bit n k)) ∙ h .bit }
+
+half-lt : (w n : ℕ) → n < 2 ^ suc w → n / 2 < 2 ^ w
+half-lt w n h = shr-lt w 1 (subst (λ (x : ℕ). n < 2 ^ x) (sym (add-one w)) h)
+
+-- ---- a word that is below 2 ^ w is known by its w bits
+
+digits-eq : (x y : ℕ) → x < 2 → y < 2 → (x ≡ 1 → y ≡ 1) → (y ≡ 1 → x ≡ 1) → x ≡ y
+digits-eq zero zero hx hy f g = refl
+digits-eq zero (suc y) hx hy f g = let e : suc y ≡ 1 = omega arith in omega (arith, g e)
+digits-eq (suc x) y hx hy f g = let e : suc x ≡ 1 = omega arith in omega (arith, f e)
+
+has-zero : (n : ℕ) → n % 2 ≡ 1 → Has n 0
+has-zero n h = record { bit = ap (λ (x : ℕ). x % 2) (div-one n) ∙ h }
+
+zero-has : (n : ℕ) → Has n 0 → n % 2 ≡ 1
+zero-has n h = ap (λ (x : ℕ). x % 2) (sym (div-one n)) ∙ h .bit
+
+digit-le : (x y : ℕ) → x < 2 → (x ≡ 1 → y ≡ 1) → x ≤ y
+digit-le zero y hx f = omega arith
+digit-le (suc x) y hx f = let e : suc x ≡ 1 = omega arith in omega (arith, f e)
+
+pub word-ext : (w a b : ℕ) → a < 2 ^ w → b < 2 ^ w → ((k : ℕ) → k < w → Has a k → Has b k) → ((k : ℕ) → k < w → Has b k → Has a k) → a ≡ b
+word-ext zero a b ha hb f g = lt-one ha ∙ sym (lt-one hb)
+word-ext (suc w) a b ha hb f g =
+    sym (div-add-mod' a 2)
+    ∙ ap₂ (λ (x y : ℕ). x * 2 + y)
+    (word-ext w (a / 2) (b / 2) (half-lt w a ha) (half-lt w b hb)
+    (λ k h x. has-half b k (f (suc k) (omega arith) (half-has a k x)))
+    (λ k h x. has-half a k (g (suc k) (omega arith) (half-has b k x))))
+    (digits-eq (a % 2) (b % 2) (mod-lt a two-pos) (mod-lt b two-pos) (low a b f) (low b a g))
+    ∙ div-add-mod' b 2
+  where
+    low : (a′ b′ : ℕ) → ((k : ℕ) → k < suc w → Has a′ k → Has b′ k) → a′ % 2 ≡ 1 → b′ % 2 ≡ 1
+    low a′ b′ h e = zero-has b′ (h 0 (omega arith) (has-zero a′ e))
+
+-- a word with no bit, and a word with no bit from w on
+pub no-bits : (w a : ℕ) → a < 2 ^ w → ((k : ℕ) → k < w → ¬ (Has a k)) → a ≡ 0
+no-bits w a h f = word-ext w a 0 h (pow-pos w) (λ k l x. absurd (f k l x)) (λ k l x. absurd (zero-none x))
+
+-- ---- one bit: 1 << j
+
+pow-even : (j : ℕ) → 2 ^ suc j % 2 ≡ 0
+pow-even j = ap (λ (x : ℕ). x % 2) (pow-suc 2 j) ∙ mul-mod-left (2 ^ j) 2
+
+pow-half : (j : ℕ) → 2 ^ suc j / 2 ≡ 2 ^ j
+pow-half j = ap (λ (x : ℕ). x / 2) (pow-suc 2 j) ∙ mul-div-cancel (2 ^ j) two-pos
+
+pub pow-has : (j : ℕ) → Has (2 ^ j) j
+pow-has j = record { bit = ap (λ (x : ℕ). x % 2) (div-self (pow-pos j)) }
+
+pub has-pow : (j k : ℕ) → Has (2 ^ j) k → k ≡ j
+has-pow zero zero h = refl
+has-pow zero (suc k) h = absurd (zero-none (has-half 1 k h))
+has-pow (suc j) zero h = absurd (omega (arith, zero-has (2 ^ suc j) h, pow-even j))
+has-pow (suc j) (suc k) h = ap suc (has-pow j k (subst (λ (x : ℕ). Has x k) (pow-half j) (has-half (2 ^ suc j) k h)))
+
+-- ---- the count of set bits
+
+pub ones-zero : ones 0 ≡ 0
+unfolding ones
+ones-zero = refl
+
+pub ones-pow : (j : ℕ) → ones (2 ^ j) ≡ 1
+unfolding ones
+ones-pow zero = refl
+ones-pow (suc j) = omega (arith, ones-step (2 ^ suc j), pow-even j, ap ones (pow-half j), ones-pow j)
+
+-- what | has and what & has, together, are counted as the two words
+pub ones-or-and : (a b : ℕ) → ones (bitOr a b) + ones (bitAnd a b) ≡ ones a + ones b
+ones-or-and a =
+    bin-ind (λ (n : ℕ). (b : ℕ) → ones (bitOr n b) + ones (bitAnd n b) ≡ ones n + ones b) (λ b. add-comm (ones b) (ones 0))
+    (λ n ih b.
+    omega (
+      arith,
+      ih (b / 2),
+      ones-step (bitOr n b),
+      ones-step (bitAnd n b),
+      ones-step n,
+      ones-step b,
+      or-odd n b,
+      and-odd n b,
+      ap ones (or-shr n b 1),
+      ap ones (and-shr n b 1),
+    )) a
+
+-- a part of a word's bits is counted below it
+pub ones-part : (w a b : ℕ) → a < 2 ^ w → ((k : ℕ) → k < w → Has a k → Has b k) → ones a ≤ ones b
+ones-part zero a b h f = omega (arith, ap ones (lt-one h), ones-zero)
+ones-part (suc w) a b h f =
+    let ih = ones-part w (a / 2) (b / 2) (half-lt w a h) (λ k l x. has-half b k (f (suc k) (omega arith) (half-has a k x))) in
+    let lo : a % 2 ≤ b % 2 = digit-le (a % 2) (b % 2) (mod-lt a two-pos) (λ e. zero-has b (f 0 (omega arith) (has-zero a e))) in
+    omega (arith, ones-step a, ones-step b)
+
+-- a bit that was clear is one more
+pub ones-set : (w a j : ℕ) → a < 2 ^ w → j < w → ¬ (Has a j) → ones (bitOr a (2 ^ j)) ≡ ones a + 1
+ones-set w a j h l c =
+    let none : bitAnd a (2 ^ j) ≡ 0 =
+    no-bits w (bitAnd a (2 ^ j)) (lt-of-le-of-lt (and-le-l a (2 ^ j)) h)
+    (λ k lk x. c (subst (λ (i : ℕ). Has a i) (has-pow j k (and-right a (2 ^ j) k x)) (and-left a (2 ^ j) k x)))
+    in
+    omega (arith, ones-or-and a (2 ^ j), ap ones none, ones-zero, ones-pow j)
+
+lt-two-pow : (a : ℕ) → a < 2 ^ a
+lt-two-pow zero = pow-pos 0
+lt-two-pow (suc a) = omega (arith, lt-two-pow a, pow-suc 2 a)
+
+-- | counts at least what either has
+pub ones-or-le : (a b : ℕ) → ones a ≤ ones (bitOr a b)
+ones-or-le a b = ones-part a a (bitOr a b) (lt-two-pow a) (λ k l x. or-left a b k x)
