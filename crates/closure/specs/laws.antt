@@ -1,1 +1,9 @@
 -- What is proved of the store's definitions.
+pub mod Least
+pub mod Parts
+pub mod Keeps
+pub mod FormUnder
+pub mod FormIn
+pub mod FormLink
+pub mod FormSame
+pub mod FormRole
