@@ -292,7 +292,10 @@ static void run_commands(void)
 
 /* --- Timing: always 128 items, 32 concepts and 16 roles. --- */
 
-enum { TIMED_CALLS = 3000 };
+enum {
+    TIMED_CALLS = 3000,  /* of each kind */
+    ROUND = 5            /* calls before the store is set back, so that it stays as filled */
+};
 
 /* A store to be timed on. */
 typedef uint64_t store[SALTREEVE_WORDS];
@@ -411,16 +414,16 @@ static void print_time(const char *where, const char *kind, double spent, int fr
            where, kind, spent * 1e6 / calls, calls, fruitful);
 }
 
-/* Times drawn statements of a kind; every `round` calls the store starts again from `base`. */
-static void time_drawn(const char *where, const store base, const char *kind, int round)
+/* Times drawn statements of a kind on a store. */
+static void time_drawn(const char *where, const store base, const char *kind)
 {
     static store w;
     double spent = 0;
     int fruitful = 0, calls = 0;
-    for (; calls < TIMED_CALLS; calls += round) {
+    for (; calls < TIMED_CALLS; calls += ROUND) {
         memcpy(w, base, sizeof w);
         double start = seconds();
-        for (int i = 0; i < round; i++)
+        for (int i = 0; i < ROUND; i++)
             fruitful += put_drawn(w, kind) > 0;
         spent += seconds() - start;
     }
@@ -448,14 +451,13 @@ static void time_largest(const char *kind)
 static void run_times(void)
 {
     static const char *const KINDS[] = {"same", "under", "role_under", "in", "link"};
-    static const int ROUNDS[] = {10, 10, 4, 100, 100};
     static store base;
     fill_moderate(base);
     for (int k = 0; k < 5; k++)
-        time_drawn("moderate store", base, KINDS[k], ROUNDS[k]);
+        time_drawn("moderate store", base, KINDS[k]);
     fill_worst(base);
     for (int k = 0; k < 5; k++)
-        time_drawn("worst store", base, KINDS[k], ROUNDS[k]);
+        time_drawn("worst store", base, KINDS[k]);
     for (int k = 0; k < 5; k++)
         time_largest(KINDS[k]);
 }

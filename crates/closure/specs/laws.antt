@@ -1,7 +1,13 @@
 -- What is proved of the store's definitions.
 pub mod Least
+pub mod Reflexive
 pub mod Parts
+pub mod Cells
 pub mod Keeps
+pub mod LinkRows
+pub mod UnderLaws
+pub mod InLaws
+pub mod LinkLaws
 pub mod FormUnder
 pub mod FormIn
 pub mod FormLink

@@ -7,3 +7,4 @@ pub mod Merge
 pub mod Turn
 pub mod Diagonal
 pub mod Test
+pub mod Count
