@@ -5,6 +5,7 @@ pub mod Parts
 pub mod Cells
 pub mod Keeps
 pub mod LinkRows
+pub mod FreshLaws
 pub mod UnderLaws
 pub mod InLaws
 pub mod LinkLaws
