@@ -150,26 +150,26 @@ class Drawer:
         statement[at] = self.rng.choice((*self.counts, *LIMITS, 64, 2**32 + statement[at], *HUGE))
         return tuple(statement)
 
-    # Some numbers of a kind, each once, in a row.
+    # Some numbers below a count, each once, at most so many.
     def row(self, which, most):
         count = self.counts[which]
         return self.rng.sample(range(count), self.rng.randint(0, min(count, most)))
 
-    # Items made the same one after the other, and links at them.
+    # Items made the same one after the other, and links at some of them.
     def merges(self, most):
         row = self.row(0, most)
         merged = [("same", a, b) for a, b in zip(row, row[1:])]
         return merged + [("link", self.role(), self.item(), b) for b in row[:2]]
 
-    # Concepts each under the next, the last under the first, and items in some.
-    def concept_ring(self):
-        row = self.row(1, 6)
+    # Concepts each under the next, the last under the first, and items in some of them.
+    def concept_ring(self, most):
+        row = self.row(1, most)
         ring = [("under", A, B) for A, B in zip(row, row[1:] + row[:1])]
         return ring + [("in", self.item(), A) for A in row[:2]]
 
-    # Roles each under the next or its inverse, the last under the first, and links by some.
-    def role_ring(self):
-        row = self.row(2, 6)
+    # Roles each under the next or its inverse, the last under the first, and links by some of them.
+    def role_ring(self, most):
+        row = self.row(2, most)
         ring = [("role_under", R, S, self.inverse()) for R, S in zip(row, row[1:] + row[:1])]
         return ring + [("link", R, self.item(), self.item()) for R in row[:2]]
 
@@ -187,9 +187,9 @@ def counts_of_call(rng, counts):
 def draw_sequence(rng, counts):
     drawer = Drawer(rng, counts)
     statements = [drawer.any() for _ in range(rng.randint(1, 14))]
-    for shape in (lambda: drawer.merges(rng.choice((4, 4, 4, 20))), drawer.concept_ring, drawer.role_ring):
+    for shape, most in ((drawer.merges, 20), (drawer.concept_ring, 8), (drawer.role_ring, 8)):
         if rng.random() < 0.35:
-            statements += shape()
+            statements += shape(most)
     statements += [drawer.undeclared() for _ in range(rng.choice((0, 0, 1)))]
     rng.shuffle(statements)
     return [(counts_of_call(rng, counts), statement) for statement in statements]
@@ -202,27 +202,45 @@ def in_another_order(rng, calls):
     return again
 
 
-# One sequence in its order, and mostly in another order as well, with the same end.
-def sequence(commands, seed, number):
-    rng = commands.part(seed, "sequence", number)
-    counts = draw_counts(rng)
-    calls = draw_sequence(rng, counts)
-    run_sequence(commands, counts, calls)
-    commands.sequences += 1
-    if rng.random() < 0.7:
+# Makes calls from a start on; if wanted, again from there in another order, with the same end.
+def in_orders(commands, rng, start, calls, again):
+    start()
+    make_calls(commands, calls)
+    if again:
         end = commands.words
         commands.write("keep\n")
-        run_sequence(commands, counts, in_another_order(rng, calls))
+        start()
+        make_calls(commands, in_another_order(rng, calls))
         require(commands.words == end, "the oracle depends on the order of the statements")
         commands.write("compare\n")
         commands.reordered += 1
 
 
-# Makes the calls of a sequence from a fresh store on.
-def run_sequence(commands, counts, calls):
-    commands.fresh(counts)
-    for counts_given, statement in calls:
-        commands.add(counts_given, statement)
+# Adds the statements of some calls.
+def make_calls(commands, calls):
+    for counts, statement in calls:
+        commands.add(counts, statement)
+
+
+# One sequence from a fresh store on.
+def sequence(commands, seed, number):
+    rng = commands.part(seed, "sequence", number)
+    counts = draw_counts(rng)
+    calls = draw_sequence(rng, counts)
+    in_orders(commands, rng, lambda: commands.fresh(counts), calls, rng.random() < 0.7)
+    commands.sequences += 1
+
+
+# One sequence from a large store on.
+def large_store(commands, seed, number):
+    rng = commands.part(seed, "large", number)
+    counts = rng.choice((LIMITS, LIMITS, Counts(127, 31, 15), Counts(65, 9, 9)))
+    drawer = Drawer(rng, counts)
+    made_of = drawer.merges(rng.choice((2, 64, 128))) + drawer.concept_ring(32) + drawer.role_ring(16)
+    words = oracle.words_of(filled(counts, made_of + [drawer.any() for _ in range(30)]))
+    calls = [(counts, statement) for statement in [drawer.of_kind(kind) for kind in KINDS] + drawer.merges(4)]
+    in_orders(commands, rng, lambda: commands.load(words), calls, True)
+    commands.sequences += 1
 
 
 # Document 01's examples about the store, with the numbers that it gives or that are counted by hand.
@@ -457,11 +475,12 @@ def write_all(commands, seed, sequences, rounds):
     fresh_over_anything(commands, seed)
     all_zero(commands, seed)
     wrong_lengths(commands, seed)
-    commands.load([0] * WORDS)
-    for number in range(sequences):
-        sequence(commands, seed, number)
     wrong_counts(commands, seed)
     wrong_numbers(commands, seed)
     broken_rules(commands, seed, rounds)
     stray_bits(commands, seed)
     turned_cells(commands, seed, 10 * rounds)
+    for number in range(sequences):
+        sequence(commands, seed, number)
+    for number in range(sequences // 40):
+        large_store(commands, seed, number)

@@ -13,7 +13,7 @@
  *   call KIND ITEMS CONCEPTS ROLES X Y Z RESULT LIST
  *                         makes a call with the numbers X, Y and Z (0 where it has
  *                         fewer); RESULT is due, and LIST has the words that change
- *   keep                  remembers the store and the sum of the counts since fresh
+ *   keep                  remembers the store and the sum of the counts since fresh or load
  *   compare               asks that both are as remembered
  *
  * After every call the result and all words are compared, also the words kept
@@ -52,7 +52,7 @@ struct run {
     uint64_t *words;
     size_t length;
     uint64_t expected[MOST_WORDS];
-    int64_t sum;      /* of the counts since the last fresh store */
+    int64_t sum;      /* of the counts since the store was fresh or loaded */
     uint64_t kept[MOST_WORDS];
     int64_t kept_sum;
     char part[NAME_BYTES];
@@ -227,6 +227,7 @@ static void do_load(struct run *run)
         stop("the store is too long");
     memset(run->expected, 0, sizeof run->expected);
     read_list(run);
+    run->sum = 0;
     free(run->block);
     run->block = malloc((run->length + 2 * GUARD_WORDS) * sizeof *run->block);
     if (run->block == NULL)

@@ -6,6 +6,7 @@ pub mod Cells
 pub mod Keeps
 pub mod LinkRows
 pub mod FreshLaws
+pub mod Refusals
 pub mod UnderLaws
 pub mod InLaws
 pub mod LinkLaws

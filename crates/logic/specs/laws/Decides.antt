@@ -1,6 +1,10 @@
 -- Laws of tests that decide. Assumes nothing.
 use mathlib.Core.Path.{_≡_, sym, _∙_}
-use mathlib.Core.Bool.{Bool, true, false, _&&_, true≢false}
+use mathlib.Core.Bool.{Bool, true, false, true≢false}
+use Prim.Native.Nat.{ℕ, _≤_, _<_}
+use native.Mathlib.Omega.{arith}
+use borrow.Author.Tests.{ltb-true, ltb-false, leb-true, leb-false}
+use lib.Dec.{ltb, leb}
 use Rattle.logic.specs.Decides.{Decides}
 
 -- a test that said yes, and one that said no
@@ -20,3 +24,10 @@ decides-when o d = record { holds = λ e x. d .holds e; fails = λ e f. d .fails
 
 pub decides-off : {on : Bool} {P : Type 0} → on ≡ false → Decides true (on ≡ true → P)
 decides-off o = decides-yes (λ x. absurd (true≢false (sym x ∙ o)))
+
+-- comparisons of numbers
+pub decides-lt : (a b : ℕ) → Decides (ltb a b) (a < b)
+decides-lt a b = record { holds = ltb-true a b; fails = λ e l. omega (arith, ltb-false a b e) }
+
+pub decides-le : (a b : ℕ) → Decides (leb a b) (a ≤ b)
+decides-le a b = record { holds = leb-true a b; fails = λ e l. omega (arith, leb-false a b e) }
