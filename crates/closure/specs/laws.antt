@@ -7,6 +7,7 @@ pub mod Keeps
 pub mod LinkRows
 pub mod FreshLaws
 pub mod Refusals
+pub mod Demand3
 pub mod UnderLaws
 pub mod InLaws
 pub mod LinkLaws
