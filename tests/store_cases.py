@@ -70,13 +70,17 @@ def require(holds, why):
 
 # The words that change, as the driver reads them: how many, then index and new value of each.
 def changed_words(before, after):
-    changes = [f" {at} {new}" for at, (old, new) in enumerate(zip(before, after)) if old != new]
+    changes = []
+    for start in range(0, len(after), 64):
+        if before[start:start + 64] != after[start:start + 64]:
+            changes += [f" {at} {after[at]}" for at in range(start, min(start + 64, len(after)))
+                        if before[at] != after[at]]
     return f" {len(changes)}{''.join(changes)}"
 
 
 # Counts for a sequence: many small ones, some anywhere, some at the edge of a word or at the limits.
 def draw_counts(rng):
-    size = rng.choices(("tiny", "small", "any", "edges", "limits"), (25, 55, 8, 8, 4))[0]
+    size = rng.choices(("tiny", "small", "any", "edges", "limits"), (25, 61, 6, 5, 3))[0]
     if size == "tiny":
         return Counts(rng.randint(0, 3), rng.randint(0, 3), rng.randint(0, 2))
     if size == "small":
@@ -227,7 +231,7 @@ def sequence(commands, seed, number):
     rng = commands.part(seed, "sequence", number)
     counts = draw_counts(rng)
     calls = draw_sequence(rng, counts)
-    in_orders(commands, rng, lambda: commands.fresh(counts), calls, rng.random() < 0.7)
+    in_orders(commands, rng, lambda: commands.fresh(counts), calls, rng.random() < 0.6)
     commands.sequences += 1
 
 

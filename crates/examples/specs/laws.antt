@@ -1,0 +1,3 @@
+-- The proof of the examples.
+pub mod Store
+pub mod Proved

@@ -1,0 +1,12 @@
+-- The examples hold. Assumes nothing.
+use Rattle.examples.specs.Examples.{Examples}
+use Rattle.examples.specs.laws.Store.{same-itself, same-two}
+
+-- all of them
+pub examples : Examples
+examples = record {
+  own-inverse = λ k x y. k .closed .obeys .link-inverse y x;
+  inverse-twice = λ k x y. k .closed .obeys .role-trans x y;
+  same-itself = same-itself;
+  same-two = same-two;
+}

@@ -1,0 +1,1 @@
+// Document 01's examples. Those marked P stand as one theorem in specs/Examples.antt.
