@@ -1,0 +1,30 @@
+-- `saltreeve::code` meets its contract: each arm gives its case. Assumes nothing.
+use native.Mathlib.Omega.{arith}
+use mir.Syntax.{w64}
+use mir.ValLaws.{toZ-pos}
+use borrow.Author.Needs.{needs}
+use Rattle.saltreeve.proofs.code.Statement.{statement}
+use Rattle.saltreeve.proofs.code.Tie as tie
+
+enum-known-a : tie.Need-enum-known-a
+enum-known-a c = search needs
+
+cast-result : tie.Need-cast-result
+cast-result c = let h = rw (c .before .a .given .1) at (c .before .before .before .pre) in record { sfits = omega arith }
+
+enum-known-a-2 : tie.Need-enum-known-a-2
+enum-known-a-2 c = search needs
+
+refusal-code-requires : tie.Need-refusal-code-requires
+refusal-code-requires c κs = search needs
+
+returns : tie.Need-returns
+returns c = let h = rw (c .before .a .given .1) at (c .before .before .before .pre) in rw (c .before .a .given .1) (toZ-pos w64 _ (omega arith))
+
+returns-2 : tie.Need-returns-2
+returns-2 c = rw (c .before .before .a2 .given .1) (c .refusal-code .ensures)
+
+pub code-spec : {M : Type 1} → statement M
+code-spec =
+    tie.close
+    (tie.spec enum-known-a cast-result enum-known-a-2 refusal-code-requires returns returns-2)

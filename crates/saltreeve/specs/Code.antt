@@ -1,0 +1,38 @@
+-- The answers of the entry points as signed numbers: the cells, or minus the number of refusal.
+use mathlib.Core.Path.{_≡_}
+use mathlib.Core.List.{List}
+use Prim.Native.Nat.{ℕ, _*_, _≤_}
+use lib.IntN.{ℤ, pos, negℤ}
+use Rattle.closure.specs.declared.Counts.{Counts}
+use Rattle.closure.specs.declared.Answer.{Answer}
+use Rattle.closure.specs.declared.Answer.the-variants.{Cells, Refused}
+use Rattle.closure.specs.Cell.{Cell}
+use Rattle.closure.specs.Layout.{size, width}
+use Rattle.closure.specs.Refusal.{number}
+use Rattle.closure.specs.Promise.{Makes, Adds}
+
+-- an answer as a signed number
+abbrev pub codeOf : Answer → ℤ
+codeOf (Cells m) = pos m
+codeOf (Refused k) = negℤ (pos (number k))
+
+-- an answer whose cells a store can have
+abbrev pub Small : Answer → Type 0
+Small (Cells m) = m ≤ 64 * size width
+Small (Refused k) = Unit {0}
+
+-- the declared counts
+abbrev pub counts : ℕ → ℕ → ℕ → Counts
+counts items concepts roles = record { items = items; concepts = concepts; roles = roles }
+
+-- making a fresh store of the words s leaves t and gives r
+pub record FreshCode (n : Counts) (s t : List ℕ) (r : ℤ) : Type 0 where
+  pub answer : Answer
+  pub makes : Makes width n s t answer
+  pub code : r ≡ codeOf answer
+
+-- adding the cell c to the words s leaves t and gives r
+pub record AddCode (n : Counts) (c : Cell) (s t : List ℕ) (r : ℤ) : Type 0 where
+  pub answer : Answer
+  pub adds : Adds width n c s t answer
+  pub code : r ≡ codeOf answer

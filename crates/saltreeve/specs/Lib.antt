@@ -1,0 +1,3 @@
+-- What other languages get.
+pub mod Code
+pub mod laws

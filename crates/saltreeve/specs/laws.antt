@@ -1,0 +1,2 @@
+-- What is proved of the answers as numbers.
+pub mod Code
