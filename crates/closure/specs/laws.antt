@@ -16,3 +16,6 @@ pub mod FormIn
 pub mod FormLink
 pub mod FormSame
 pub mod FormRole
+pub mod SameLaws
+pub mod RoleWord
+pub mod RoleLaws

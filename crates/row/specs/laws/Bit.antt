@@ -10,7 +10,7 @@ use native.Mathlib.Decide.{ℕ-discrete, decLt}
 use native.Mathlib.Numerals.{add-one, one-add}
 use borrow.Author.Tests.{eqb-true, eqb-false, eq-eqb}
 use lib.Arith.{digits-mod, lt-one, bin-ind}
-use lib.Pow.{pow-pos, pow-mono, shr-shr, shr-lt}
+use lib.Pow.{pow-pos, pow-mono, shr-shr, shr-lt, shr-le, split}
 use lib.Bits.{and-le-l, bitOr, bitAnd, or-step, and-step, or-shr, and-shr}
 use lib.Count.{ones, ones-step}
 use lib.ListN.{getD}
@@ -149,9 +149,18 @@ word-ext (suc w) a b ha hb f g =
     low : (a′ b′ : ℕ) → ((k : ℕ) → k < suc w → Has a′ k → Has b′ k) → a′ % 2 ≡ 1 → b′ % 2 ≡ 1
     low a′ b′ h e = zero-has b′ (h 0 (omega arith) (has-zero a′ e))
 
--- a word with no bit, and a word with no bit from w on
+-- a word with no bit
 pub no-bits : (w a : ℕ) → a < 2 ^ w → ((k : ℕ) → k < w → ¬ (Has a k)) → a ≡ 0
 no-bits w a h f = word-ext w a 0 h (pow-pos w) (λ k l x. absurd (f k l x)) (λ k l x. absurd (zero-none x))
+
+-- a word with no bit from w on
+pub bits-lt : (v w : ℕ) {x : ℕ} → x < 2 ^ v → ((k : ℕ) → Has x k → k < w) → x < 2 ^ w
+bits-lt v w {x} h f =
+    let none : x / 2 ^ w ≡ 0 =
+    no-bits v (x / 2 ^ w) (lt-of-le-of-lt (shr-le x w) h)
+    (λ k l y. absurd (omega (arith, f (w + k) (record { bit = ap (λ (z : ℕ). z % 2) (sym (shr-shr x w k)) ∙ y .bit }))))
+    in
+    omega (arith, split x w, mod-lt x (pow-pos w), ap (λ (z : ℕ). z * 2 ^ w) none)
 
 -- ---- one bit: 1 << j
 
