@@ -143,12 +143,12 @@ class Drawer:
         return kind, self.role(), self.item(), self.item()
 
     # A statement of any kind.
-    def any(self):
+    def statement(self):
         return self.of_kind(self.rng.choices(KINDS, self.weights)[0])
 
-    # A statement with one number that is not below its count.
+    # A statement with one number changed, mostly to one that is not below its count.
     def undeclared(self):
-        statement = list(self.any())
+        statement = list(self.statement())
         places = {"role_under": 2}.get(statement[0], len(statement) - 1)
         at = self.rng.randint(1, places)
         statement[at] = self.rng.choice((*self.counts, *LIMITS, 64, 2**32 + statement[at], *HUGE))
@@ -190,7 +190,7 @@ def counts_of_call(rng, counts):
 # The calls of a sequence: counts and a statement each.
 def draw_sequence(rng, counts):
     drawer = Drawer(rng, counts)
-    statements = [drawer.any() for _ in range(rng.randint(1, 14))]
+    statements = [drawer.statement() for _ in range(rng.randint(1, 14))]
     for shape, most in ((drawer.merges, 20), (drawer.concept_ring, 8), (drawer.role_ring, 8)):
         if rng.random() < 0.35:
             statements += shape(most)
@@ -237,11 +237,11 @@ def sequence(commands, seed, number):
 
 # One sequence from a large store on.
 def large_store(commands, seed, number):
-    rng = commands.part(seed, "large", number)
+    rng = commands.part(seed, "large-store", number)
     counts = rng.choice((LIMITS, LIMITS, Counts(127, 31, 15), Counts(65, 9, 9)))
     drawer = Drawer(rng, counts)
     made_of = drawer.merges(rng.choice((2, 64, 128))) + drawer.concept_ring(32) + drawer.role_ring(16)
-    words = oracle.words_of(filled(counts, made_of + [drawer.any() for _ in range(30)]))
+    words = oracle.words_of(filled(counts, made_of + [drawer.statement() for _ in range(30)]))
     calls = [(counts, statement) for statement in [drawer.of_kind(kind) for kind in KINDS] + drawer.merges(4)]
     in_orders(commands, rng, lambda: commands.load(words), calls, True)
     commands.sequences += 1
@@ -284,13 +284,13 @@ def filled(counts, statements):
 # A closed store made of a few statements drawn.
 def draw_filled(rng, counts, most):
     drawer = Drawer(rng, counts)
-    return filled(counts, [drawer.any() for _ in range(rng.randint(0, most))])
+    return filled(counts, [drawer.statement() for _ in range(rng.randint(0, most))])
 
 
 # Wrong lengths are refused with 1, whatever else is wrong.
 def wrong_lengths(commands, seed):
     for number, length in enumerate(WRONG_LENGTHS):
-        rng = commands.part(seed, "length", number)
+        rng = commands.part(seed, "wrong-length", number)
         commands.load([rng.getrandbits(64) for _ in range(length)])
         for counts in (Counts(0, 0, 0), Counts(3, 2, 2), LIMITS, Counts(129, 33, 17)):
             every_call(commands, rng, counts)
@@ -298,7 +298,7 @@ def wrong_lengths(commands, seed):
         every_call(commands, rng, Counts(3, 2, 2))
 
 
-# One call of each kind, and one of each with an undeclared number.
+# A call of each kind, and as many with a number that is mostly undeclared.
 def every_call(commands, rng, counts):
     drawer = Drawer(rng, Counts(*(min(count, limit) for count, limit in zip(counts, LIMITS))))
     commands.fresh(counts)
@@ -309,7 +309,7 @@ def every_call(commands, rng, counts):
 
 # Counts over a limit are refused with 1, on closed stores and on others, and counts at the limit are not.
 def wrong_counts(commands, seed):
-    rng = commands.part(seed, "counts", 0)
+    rng = commands.part(seed, "wrong-counts", 0)
     stores = [oracle.words_of(draw_filled(rng, counts, 6)) for counts in (Counts(3, 2, 2), LIMITS)]
     for words in (*stores, [0] * WORDS, [2**64 - 1] * WORDS):
         commands.load(words)
@@ -322,7 +322,7 @@ def wrong_counts(commands, seed):
 # Every number at or above its count is refused with 4 on a closed store, each place on its own.
 def wrong_numbers(commands, seed):
     for number, counts in enumerate((Counts(0, 0, 0), Counts(3, 2, 2), Counts(70, 9, 5), LIMITS)):
-        rng = commands.part(seed, "number", number)
+        rng = commands.part(seed, "wrong-number", number)
         commands.load(oracle.words_of(draw_filled(rng, counts, 8)))
         drawer = Drawer(rng, counts)
         for kind in KINDS:
@@ -333,7 +333,7 @@ def wrong_numbers(commands, seed):
             commands.add(counts, statement)
 
 
-# Numbers that are at or above every count, or above some of them.
+# Numbers at or above the counts, some only at or above the smaller ones.
 def wrong_numbers_for(number, counts):
     return sorted({*counts, *LIMITS, 64, 192, 256 + number, 2**16 + number, 2**32 + number, *HUGE})
 
@@ -382,7 +382,7 @@ def draw_actors(rng, counts):
 # The scenes, by turns alone and in stores with other statements.
 def broken_rules(commands, seed, rounds):
     for number in range(rounds):
-        rng = commands.part(seed, "broken", number)
+        rng = commands.part(seed, "broken-rule", number)
         counts = rng.choice((Counts(4, 3, 3), Counts(7, 5, 5), Counts(66, 3, 4), LIMITS))
         others = (0,) if number % 2 == 0 else (12, 8, 4, 2, 0)
         for rule, stated, taken in scenes(*draw_actors(rng, counts)):
@@ -395,7 +395,7 @@ def broken_rules(commands, seed, rounds):
 def break_rule(rng, counts, rule, stated, taken, others):
     for other in others:
         drawer = Drawer(rng, counts)
-        cells = filled(counts, [drawer.any() for _ in range(other)] + stated)
+        cells = filled(counts, [drawer.statement() for _ in range(other)] + stated)
         for cell in taken:
             cells.clear(cell)
         if oracle.broken_rules(cells) == [rule]:
@@ -406,29 +406,29 @@ def break_rule(rng, counts, rule, stated, taken, others):
 # A store that is not closed: 2, before 4, and after 1.
 def refused_as_damaged(commands, rng, counts):
     drawer = Drawer(rng, counts)
-    result = commands.add(counts, drawer.any())
+    result = commands.add(counts, drawer.statement())
     require(result == oracle.REFUSED_NOT_CLOSED, "the oracle takes a damaged store as closed")
     commands.add(counts, drawer.undeclared())
     if rng.random() < 0.2:
-        commands.add(counts._replace(roles=17), drawer.any())
+        commands.add(counts._replace(roles=17), drawer.statement())
     commands.damaged += 1
 
 
 # One bit that is no cell within the counts, in very many words of a closed store, one word at a time.
 def stray_bits(commands, seed):
     for number, counts in enumerate((Counts(0, 0, 0), Counts(5, 4, 3), Counts(65, 31, 15), LIMITS)):
-        rng = commands.part(seed, "stray", number)
+        rng = commands.part(seed, "stray-bit", number)
         commands.load(oracle.words_of(draw_filled(rng, counts, 8)))
         drawer = Drawer(rng, counts)
         for index, outside in enumerate(bits_outside(counts)):
             if outside and (index < 432 or rng.random() < 0.1):
                 mask = 1 << rng.choice(oracle.bits(outside))
                 commands.flip(index, mask)
-                result = commands.add(counts, drawer.any())
+                result = commands.add(counts, drawer.statement())
                 require(result == oracle.REFUSED_NOT_CLOSED, "the oracle passes over a stray bit")
                 commands.flip(index, mask)
                 commands.damaged += 1
-        commands.add(counts, drawer.any())
+        commands.add(counts, drawer.statement())
 
 
 # For each word, the bits that are no cell within the counts.
@@ -440,22 +440,22 @@ def bits_outside(counts):
 # Closed stores with a few cells turned over: most are closed no longer, some still are.
 def turned_cells(commands, seed, rounds):
     for number in range(rounds):
-        rng = commands.part(seed, "turned", number)
+        rng = commands.part(seed, "turned-cells", number)
         counts = rng.choice((Counts(2, 1, 1), Counts(3, 2, 2), Counts(6, 4, 3), Counts(65, 5, 3)))
         cells = draw_filled(rng, counts, 10)
         drawer = Drawer(rng, counts)
         for _ in range(rng.randint(1, 3)):
-            cell = drawer.any()
+            cell = drawer.statement()
             (cells.clear if cells.has(cell) else cells.set)(cell)
         commands.load(oracle.words_of(cells))
-        commands.damaged += commands.add(counts, drawer.any()) == oracle.REFUSED_NOT_CLOSED
-        commands.add(counts, drawer.any())
+        commands.damaged += commands.add(counts, drawer.statement()) == oracle.REFUSED_NOT_CLOSED
+        commands.add(counts, drawer.statement())
 
 
 # A fresh store is the same whatever the words held before.
 def fresh_over_anything(commands, seed):
     for number, counts in enumerate((Counts(0, 0, 0), Counts(3, 2, 2), Counts(64, 31, 15), LIMITS)):
-        rng = commands.part(seed, "fresh", number)
+        rng = commands.part(seed, "fresh-over", number)
         commands.load([rng.getrandbits(64) for _ in range(WORDS)])
         commands.fresh(counts)
         commands.load([2**64 - 1] * WORDS)
@@ -464,7 +464,7 @@ def fresh_over_anything(commands, seed):
 
 # All zero is closed only if nothing is declared.
 def all_zero(commands, seed):
-    rng = commands.part(seed, "zero", 0)
+    rng = commands.part(seed, "all-zero", 0)
     for counts in (Counts(0, 0, 0), Counts(1, 0, 0), Counts(0, 1, 0), Counts(0, 0, 1), LIMITS):
         commands.load([0] * WORDS)
         drawer = Drawer(rng, counts)

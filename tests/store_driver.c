@@ -158,7 +158,7 @@ static void print_place(const struct run *run)
 static void print_call(const struct run *run, const struct call *call)
 {
     print_place(run);
-    printf("%s of numbers %" PRIu64 " %" PRIu64 " %" PRIu64 ", store of %zu words, %" PRIu64 " items, %" PRIu64
+    printf("it was: %s %" PRIu64 " %" PRIu64 " %" PRIu64 ", on %zu words with %" PRIu64 " items, %" PRIu64
            " concepts, %" PRIu64 " roles\n",
            call->kind, call->x, call->y, call->z, run->length, call->items, call->concepts, call->roles);
 }

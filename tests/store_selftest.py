@@ -28,6 +28,17 @@ FAULTS = (
 )
 RULE_COUNT = 16
 
+# Commands that are wrong about the sound stand-in, each in its own way.
+FRESH_PAIR = "load 4528 0 call fresh 2 0 0 0 0 0 2 2 0 1 2 2 "
+MERGED_PAIR = "call same 2 0 0 0 1 0 2 2 0 3 2 3 "
+SPOILED = (
+    FRESH_PAIR + "call same 2 0 0 0 1 0 3 2 0 3 2 3",                # a count that is not right
+    FRESH_PAIR + "call same 2 0 0 0 1 0 2 1 0 3",                    # a change left out
+    FRESH_PAIR + "call same 2 0 0 0 2 0 -4 1 4527 1",                # a change that does not happen
+    FRESH_PAIR + MERGED_PAIR + "keep flip 4527 1 compare",           # another store at the end
+    FRESH_PAIR + MERGED_PAIR + "keep load 4528 2 0 3 2 3 compare",   # another sum of the counts
+)
+
 
 # Every option that plants a fault.
 def planted():
@@ -58,10 +69,27 @@ def build(options):
     return program
 
 
-# Whether the driver says that all calls agree.
-def passes(program, commands, calls):
+# Gives commands to the driver: its exit code, and the last line that it printed.
+def outcome(program, commands):
     done = subprocess.run([str(program)], input=commands, stdout=subprocess.PIPE)
-    return done.returncode == 0 and done.stdout.splitlines()[-1:] == [f"done {calls}".encode()]
+    return done.returncode, b"".join(done.stdout.splitlines()[-1:]).decode()
+
+
+# What the test of the sound stand-in gets wrong, as lines to print.
+def wrong_about_sound(commands, calls):
+    program = build([])
+    wrong = []
+    if outcome(program, commands) != (0, f"done {calls}"):
+        wrong.append("the sound stand-in does not pass")
+    if outcome(program, (FRESH_PAIR + MERGED_PAIR + "keep compare").encode()) != (0, "done 2"):
+        wrong.append("the sound stand-in does not pass the commands that are to be spoiled")
+    return wrong + [f"not found out: {spoiled}" for spoiled in SPOILED if outcome(program, spoiled.encode())[0] != 1]
+
+
+# Which faulty stand-ins the test misses, as lines to print.
+def missed_faults(commands, calls):
+    return [f"a stand-in built with {option} passes" for option in planted()
+            if outcome(build([option]), commands) == (0, f"done {calls}")]
 
 
 # Tries the sound stand-in and all faulty ones; 0 if the test judges each rightly.
@@ -69,13 +97,10 @@ def run(seed):
     BUILD.mkdir(parents=True, exist_ok=True)
     commands, calls = short_test(seed)
     compile_file("store_driver.c", "selftest_driver.o", [])
-    if not passes(build([]), commands, calls):
-        print(f"store self-test: seed {seed}: the sound stand-in does not pass")
-        return 1
-    missed = [option for option in planted() if passes(build([option]), commands, calls)]
-    for option in missed:
-        print(f"store self-test: seed {seed}: a stand-in built with {option} passes")
-    if not missed:
-        print(f"store self-test: {calls} calls, the sound stand-in passes, "
-              f"{len(planted())} faulty ones are all found out, seed {seed}")
-    return 1 if missed else 0
+    wrong = wrong_about_sound(commands, calls) + missed_faults(commands, calls)
+    for line in wrong:
+        print(f"store self-test: seed {seed}: {line}")
+    if not wrong:
+        print(f"store self-test: {calls} calls, the sound stand-in passes, {len(planted())} faulty ones "
+              f"and {len(SPOILED)} spoiled lists of commands are all found out, seed {seed}")
+    return 1 if wrong else 0

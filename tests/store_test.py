@@ -13,6 +13,8 @@ import subprocess
 import sys
 import tempfile
 
+sys.dont_write_bytecode = True  # keeps the folder of the tests free of build products
+
 import store_cases
 import store_selftest
 

@@ -6,6 +6,7 @@ pub mod Cells
 pub mod Keeps
 pub mod LinkRows
 pub mod FreshLaws
+pub mod Included
 pub mod Refusals
 pub mod Demand3
 pub mod UnderLaws

@@ -18,7 +18,7 @@ use Rattle.closure.specs.Cell.{Cell, Nothing, With, Within, Follows}
 use Rattle.closure.specs.Cell.Cell.{Same, Under, RoleUnder, In, Link}
 use Rattle.closure.specs.Cell.Follows.{given, same-sym}
 use Rattle.closure.specs.Cell.With.{old, new}
-use Rattle.closure.specs.Layout.{Store, Holds, width}
+use Rattle.closure.specs.Layout.{ClosedStore, Holds, width}
 use Rattle.closure.specs.Promise.{Keeps, Adds, NewlyTrue}
 use Rattle.closure.specs.Promise.Adds.{refused, added}
 use Rattle.closure.specs.laws.Least.{exact, closed-has, follows-all}
@@ -27,8 +27,8 @@ use Rattle.closure.specs.laws.Refusals.{adds-unique, add-none}
 use Rattle.examples.specs.Examples.{twoItems}
 
 -- a cell that holds adds nothing
-adds-nothing : {n : Counts} {c : Cell} {s : List ℕ} → Store width n s → Holds width n s c → Adds width n c s s (Cells 0)
-adds-nothing {n} {c} {s} k h = added (add-none (record { long = k .long; fits = k .fits }) k (h .within)) keeps (number-none (λ d x. x .before (x .now)))
+adds-nothing : {n : Counts} {c : Cell} {s : List ℕ} → ClosedStore width n s → Holds width n s c → Adds width n c s s (Cells 0)
+adds-nothing {n} {c} {s} k h = added (add-none (record { long = k .long; fits = k .fits }) k (h .within)) (record { keeps = keeps; count = number-none (λ d x. x .before (x .now)) })
   where
     only : (d : Cell) → With (Holds width n s) c d → Follows n (Holds width n s) d
     only d (old x) = given x
@@ -92,4 +92,4 @@ module _ {s t : List ℕ} (k : Keeps width twoItems Nothing s) (l : Keeps width 
 
 pub same-two : {s t : List ℕ} {r : Answer} → Keeps width twoItems Nothing s → Adds width twoItems (Same 0 1) s t r → r ≡ Cells 2
 same-two k (refused l e) = absurd (lowest-none l (add-none (record { long = k .store .long; fits = k .store .fits }) (k .store) (omega arith, omega arith)))
-same-two k (added f l m) = ap Cells (number-unique m (two k l))
+same-two k (added f x) = ap Cells (number-unique (x .count) (two k (x .keeps)))
