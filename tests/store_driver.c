@@ -261,8 +261,8 @@ static void do_compare(struct run *run)
     if (memcmp(run->kept, run->words, run->length * sizeof *run->words) == 0 && run->kept_sum == run->sum)
         return;
     print_place(run);
-    printf("another order of the statements gave another store or another sum: expected %" PRId64 ", got %" PRId64 "\n",
-           run->kept_sum, run->sum);
+    printf("another order of the statements gave another store or sum of counts: expected sum %" PRId64
+           ", got %" PRId64 "\n", run->kept_sum, run->sum);
     exit(1);
 }
 

@@ -1,6 +1,4 @@
 ghost use mathlib.Core.Path.{_≡_};
-ghost use lib.IntN.{pos, negℤ};
-ghost use Rattle.closure.specs.Refusal.{number};
 ghost use Rattle.saltreeve.specs.Code.{FreshCode, Small, codeOf, counts};
 
 // What other languages call: the entry points under their C names, and nothing else.
@@ -9,17 +7,6 @@ use closure::Counts;
 use closure::Refusal;
 use closure::Store;
 
-// Minus the number of a refusal.
-fn refusal_code(k: Refusal) -> i64
-    ensures { λ r. ⌜ r ≡ negℤ (pos (number k)) ⌝ }
-{
-    match k {
-        Refusal::Size => -1,
-        Refusal::NotClosed => -2,
-        Refusal::Number => -4,
-    }
-}
-
 // An answer as a signed number: the cells, or minus the number of refusal.
 fn code(a: Answer) -> i64
     requires { ⌜ Small a ⌝ }
@@ -27,7 +14,11 @@ fn code(a: Answer) -> i64
 {
     match a {
         Answer::Cells(m) => m as i64,
-        Answer::Refused(k) => refusal_code(k),
+        Answer::Refused(k) => match k {
+            Refusal::Size => -1,
+            Refusal::NotClosed => -2,
+            Refusal::Number => -4,
+        },
     }
 }
 
