@@ -408,44 +408,59 @@ static double seconds(void)
     return (double)now.tv_sec + (double)now.tv_nsec / 1e9;
 }
 
-/* Prints one line of times. */
-static void print_time(const char *where, const char *kind, double spent, int fruitful, int calls)
+/* Times of calls of one kind: how many, how many of them gave new cells, how many cells, how long. */
+struct times {
+    int calls, fruitful;
+    int64_t cells;
+    double spent;
+};
+
+/* Notes a call's count of new cells. */
+static void note(struct times *times, int64_t cells)
 {
-    printf("%-15s %-10s %10.2f microseconds a statement (%d calls, %d of them gave new cells)\n",
-           where, kind, spent * 1e6 / calls, calls, fruitful);
+    times->calls++;
+    times->fruitful += cells > 0;
+    times->cells += cells;
+}
+
+/* Prints one line of times. */
+static void print_times(const char *where, const char *kind, const struct times *times)
+{
+    printf("%-15s %-10s %10.2f microseconds a statement (%d calls, %d gave new cells, %.1f new cells a call)\n",
+           where, kind, times->spent * 1e6 / times->calls, times->calls, times->fruitful,
+           (double)times->cells / times->calls);
+    fflush(stdout);
 }
 
 /* Times drawn statements of a kind on a store. */
 static void time_drawn(const char *where, const store base, const char *kind)
 {
     static store w;
-    double spent = 0;
-    int fruitful = 0, calls = 0;
-    for (; calls < TIMED_CALLS; calls += ROUND) {
+    struct times times = {0, 0, 0, 0};
+    while (times.calls < TIMED_CALLS) {
         memcpy(w, base, sizeof w);
         double start = seconds();
         for (int i = 0; i < ROUND; i++)
-            fruitful += put_drawn(w, kind) > 0;
-        spent += seconds() - start;
+            note(&times, put_drawn(w, kind));
+        times.spent += seconds() - start;
     }
-    print_time(where, kind, spent, fruitful, calls);
+    print_times(where, kind, &times);
 }
 
 /* Times the one statement that adds very many cells. */
 static void time_largest(const char *kind)
 {
     static store base, w;
-    double spent = 0;
-    int fruitful = 0, calls = TIMED_CALLS / 10;
-    uint64_t x = 0, y = strcmp(kind, "same") == 0 ? 64 : strcmp(kind, "in") != 0;
+    struct times times = {0, 0, 0, 0};
+    uint64_t y = strcmp(kind, "same") == 0 ? 64 : strcmp(kind, "in") != 0;
     fill_before_largest(base, kind);
-    for (int i = 0; i < calls; i++) {
+    while (times.calls < TIMED_CALLS / 10) {
         memcpy(w, base, sizeof w);
         double start = seconds();
-        fruitful += put(w, kind, x, y, 0) > 0;
-        spent += seconds() - start;
+        note(&times, put(w, kind, 0, y, 0));
+        times.spent += seconds() - start;
     }
-    print_time("largest change", kind, spent, fruitful, calls);
+    print_times("largest change", kind, &times);
 }
 
 /* Prints the times of all kinds on all stores. */
