@@ -4,4 +4,5 @@ pub mod Layout
 pub mod Step
 pub mod Refusal
 pub mod Promise
+pub mod Closed
 pub mod laws

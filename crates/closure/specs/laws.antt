@@ -7,3 +7,9 @@ pub mod FormIn
 pub mod FormLink
 pub mod FormSame
 pub mod FormRole
+pub mod Halves
+pub mod Clean
+pub mod Pairs
+pub mod Asked
+pub mod Passed
+pub mod Closed
