@@ -6,4 +6,5 @@ pub mod Step
 pub mod Refusal
 pub mod Promise
 pub mod Lines
+pub mod Closed
 pub mod laws

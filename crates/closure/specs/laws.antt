@@ -20,3 +20,9 @@ pub mod FormRole
 pub mod SameLaws
 pub mod RoleWord
 pub mod RoleLaws
+pub mod Halves
+pub mod Clean
+pub mod Pairs
+pub mod Asked
+pub mod Passed
+pub mod Closed

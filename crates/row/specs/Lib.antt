@@ -3,4 +3,5 @@ pub mod Bit
 pub mod Row
 pub mod Change
 pub mod Test
+pub mod Below
 pub mod laws

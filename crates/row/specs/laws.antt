@@ -5,6 +5,8 @@ pub mod Mapped
 pub mod Rows
 pub mod Merge
 pub mod Turn
+pub mod Gather
 pub mod Diagonal
 pub mod Test
 pub mod Count
+pub mod Below

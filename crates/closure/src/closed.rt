@@ -1,0 +1,253 @@
+ghost use mathlib.Core.Path.{_≡_};
+ghost use mathlib.Core.Bool.{Bool};
+ghost use Prim.Native.Nat.{ℕ, _+_, _*_, _≤_, _<_};
+ghost use lib.ListN.{length, getD};
+ghost use Rattle.logic.specs.Decides.{Decides};
+ghost use Rattle.row.specs.Bit.{Has};
+ghost use Rattle.row.specs.Test.{WordIncludes};
+ghost use Rattle.closure.specs.Layout.{Fits, Laid, ClosedStore, roleLimit};
+ghost use Rattle.closure.specs.Closed.{Clean, ConceptRules, ItemRules, LinkRules, PairIncludes, RoleBit, RoleRules, RoleSteps, RolesBelow, SameRules, turned};
+use crate::Counts;
+use crate::Layout;
+
+// One more than the largest half of a role's word.
+const HALF: u64 = 65536;
+
+// A role's word with its halves changed.
+fn swapped(w: u64) -> u64
+    ensures { λ r. ⌜ r ≡ turned Bool.true w ⌝ }
+{
+    w % HALF * HALF + w / HALF
+}
+
+// Whether every bit of a role's word is a step, plain or to the inverse, to one of n roles.
+fn role_bits(w: u64, n: usize) -> bool
+    requires { ⌜ n ≤ roleLimit ⌝ }
+    ensures { λ r. ⌜ Decides r ((k : ℕ) → Has w k → RoleBit n k) ⌝ }
+{
+    if !row::below::word_below(w % HALF, n) {
+        return false;
+    }
+    row::below::word_below(w / HALF, n)
+}
+
+// Whether of the roles' words at `at` only the first n have bits, and only steps to the first n roles.
+fn roles_below(s: &[u64], at: usize, n: usize) -> bool
+    requires { ⌜ (at + roleLimit ≤ length (now s)) × (n ≤ roleLimit) ⌝ }
+    ensures { λ r. ⌜ Decides r (RolesBelow (now (s .entry)) at roleLimit n) ⌝ }
+{
+    let mut r = 0;
+    while r < crate::Store::ROLES {
+        let bits = row::below::only_if(r < n, n);
+        if !role_bits(s[at + r], bits) {
+            return false;
+        }
+        r += 1;
+    }
+    true
+}
+
+// Whether all bits but those of cells within the counts are 0.
+fn clean(s: &[u64], at: Layout, counts: Counts) -> bool
+    requires { ⌜ Laid at (now s) × Fits (at .width) counts ⌝ }
+    ensures { λ r. ⌜ Decides r (Clean at counts (now (s .entry))) ⌝ }
+{
+    let rows = 64 * at.width;
+    if !row::below::rows_below(s, 0, rows, at.width, counts.items, counts.items) {
+        return false;
+    }
+    if !row::below::rows_below(
+        s,
+        at.under,
+        crate::Store::CONCEPTS,
+        1,
+        counts.concepts,
+        counts.concepts,
+    ) {
+        return false;
+    }
+    if !roles_below(s, at.role, counts.roles) {
+        return false;
+    }
+    if !row::below::rows_below(s, at.item, rows, 1, counts.items, counts.concepts) {
+        return false;
+    }
+    row::below::blocks_below(
+        s,
+        at.link,
+        crate::Store::ROLES,
+        at.width,
+        counts.roles,
+        counts.items,
+    )
+}
+
+// Whether each item is the same as itself, and what is the same as it is the same as all that are.
+fn same_closed(s: &[u64], at: Layout, counts: Counts) -> bool
+    requires { ⌜ Laid at (now s) × Fits (at .width) counts ⌝ }
+    ensures { λ r. ⌜ Decides r (SameRules at counts (now (s .entry))) ⌝ }
+{
+    let width = at.width;
+    let size = 64 * width * width;
+    if !row::test::reflexive(s, 0, width, counts.items) {
+        return false;
+    }
+    row::test::all_spread(s, 0, width, 0, width, counts.items, size, 1)
+}
+
+// Whether each concept is under itself, and under what the concepts above it are under.
+fn concepts_closed(s: &[u64], at: Layout, counts: Counts) -> bool
+    requires { ⌜ Laid at (now s) × Fits (at .width) counts ⌝ }
+    ensures { λ r. ⌜ Decides r (ConceptRules at counts (now (s .entry))) ⌝ }
+{
+    if !row::test::reflexive(s, at.under, 1, counts.concepts) {
+        return false;
+    }
+    row::test::rows_include(s, at.under, counts.concepts, at.under, 1, counts.concepts)
+}
+
+// Whether the word of role r, and so its inverse, includes the words of its steps.
+fn role_closed(s: &[u64], at: usize, n: usize, r: usize) -> bool
+    requires { ⌜ (at + n ≤ length (now s)) × (n ≤ roleLimit) × (r < n) ⌝ }
+    ensures { λ x. ⌜ Decides x ((u : Bool) → WordIncludes (now (s .entry)) (turned u (getD (now (s .entry)) (at + r) 0)) at n) ⌝ }
+{
+    let w = s[at + r];
+    if !row::test::word_includes(s, w, at, n) {
+        return false;
+    }
+    row::test::word_includes(s, swapped(w), at, n)
+}
+
+// The same for each of the n roles.
+fn role_steps(s: &[u64], at: usize, n: usize) -> bool
+    requires { ⌜ (at + n ≤ length (now s)) × (n ≤ roleLimit) ⌝ }
+    ensures { λ r. ⌜ Decides r (RoleSteps (now (s .entry)) at n n) ⌝ }
+{
+    let mut r = 0;
+    while r < n {
+        if !role_closed(s, at, n, r) {
+            return false;
+        }
+        r += 1;
+    }
+    true
+}
+
+// Whether each role is under itself, and under what the roles above it are under.
+fn roles_closed(s: &[u64], at: Layout, counts: Counts) -> bool
+    requires { ⌜ Laid at (now s) × Fits (at .width) counts ⌝ }
+    ensures { λ r. ⌜ Decides r (RoleRules at counts (now (s .entry))) ⌝ }
+{
+    if !row::test::reflexive(s, at.role, 1, counts.roles) {
+        return false;
+    }
+    role_steps(s, at.role, counts.roles)
+}
+
+// Whether each item is in what its concepts are under, and in the concepts of the items that are the same.
+fn items_closed(s: &[u64], at: Layout, counts: Counts) -> bool
+    requires { ⌜ Laid at (now s) × Fits (at .width) counts ⌝ }
+    ensures { λ r. ⌜ Decides r (ItemRules at counts (now (s .entry))) ⌝ }
+{
+    let rows = 64 * at.width;
+    if !row::test::rows_include(s, at.item, counts.items, at.under, 1, counts.concepts) {
+        return false;
+    }
+    row::test::all_spread(s, 0, at.width, at.item, 1, counts.items, rows, 1)
+}
+
+// Whether the roles that link a and b, either way, have the roles above them beside them.
+fn pair_closed(s: &[u64], at: Layout, counts: Counts, a: usize, b: usize) -> bool
+    requires { ⌜ Laid at (now s) × Fits (at .width) counts × (a < counts .items) × (b < counts .items) ⌝ }
+    ensures { λ r. ⌜ Decides r (PairIncludes at (now (s .entry)) (counts .roles) a b) ⌝ }
+{
+    let width = at.width;
+    let size = 64 * width * width;
+    let to = at.link + a * width + b / 64;
+    let there = row::copy::gather(s, to, size, (b % 64) as u64, counts.roles);
+    if there == 0 {
+        return true;
+    }
+    let from = at.link + b * width + a / 64;
+    let back = row::copy::gather(s, from, size, (a % 64) as u64, counts.roles);
+    row::test::word_includes(s, back * HALF + there, at.role, counts.roles)
+}
+
+// The same for a and each item.
+fn pairs_closed(s: &[u64], at: Layout, counts: Counts, a: usize) -> bool
+    requires { ⌜ Laid at (now s) × Fits (at .width) counts × (a < counts .items) ⌝ }
+    ensures { λ r. ⌜ Decides r ((b : ℕ) → b < counts .items → PairIncludes at (now (s .entry)) (counts .roles) a b) ⌝ }
+{
+    let mut b = 0;
+    while b < counts.items {
+        if !pair_closed(s, at, counts, a, b) {
+            return false;
+        }
+        b += 1;
+    }
+    true
+}
+
+// The same for all pairs of items.
+fn all_pairs_closed(s: &[u64], at: Layout, counts: Counts) -> bool
+    requires { ⌜ Laid at (now s) × Fits (at .width) counts ⌝ }
+    ensures { λ r. ⌜ Decides r ((a : ℕ) → a < counts .items → (b : ℕ) → b < counts .items → PairIncludes at (now (s .entry)) (counts .roles) a b) ⌝ }
+{
+    let mut a = 0;
+    while a < counts.items {
+        if !pairs_closed(s, at, counts, a) {
+            return false;
+        }
+        a += 1;
+    }
+    true
+}
+
+// Whether the links go along what is the same, at both ends, and along the roles.
+fn links_closed(s: &[u64], at: Layout, counts: Counts) -> bool
+    requires { ⌜ Laid at (now s) × Fits (at .width) counts ⌝ }
+    ensures { λ r. ⌜ Decides r (LinkRules at counts (now (s .entry))) ⌝ }
+{
+    let width = at.width;
+    let rows = 64 * width;
+    let size = rows * width;
+    if !row::test::all_spread(
+        s,
+        0,
+        width,
+        at.link,
+        width,
+        counts.items,
+        size,
+        counts.roles,
+    ) {
+        return false;
+    }
+    if !row::test::rows_include(s, at.link, counts.roles * rows, 0, width, counts.items) {
+        return false;
+    }
+    all_pairs_closed(s, at, counts)
+}
+
+// Whether the words are a closed store.
+pub fn closed(s: &[u64], at: Layout, counts: Counts) -> bool
+    requires { ⌜ Laid at (now s) × Fits (at .width) counts ⌝ }
+    ensures { λ r. ⌜ Decides r (ClosedStore (at .width) counts (now (s .entry))) ⌝ }
+{
+    if !clean(s, at, counts) {
+        return false;
+    }
+    if !same_closed(s, at, counts) {
+        return false;
+    }
+    if !concepts_closed(s, at, counts) {
+        return false;
+    }
+    if !roles_closed(s, at, counts) {
+        return false;
+    }
+    if !items_closed(s, at, counts) {
+        return false;
+    }
+    links_closed(s, at, counts)
+}
