@@ -1,8 +1,8 @@
 -- What the test of a closed store asks, part by part, of the rows of its words.
 use mathlib.Core.Logic.{_⊎_}
-use mathlib.Core.Bool.{Bool, true, false}
+use mathlib.Core.Bool.{Bool}
 use mathlib.Core.List.{List}
-use Prim.Native.Nat.{ℕ, _+_, _*_, _/_, _%_, _^_, _≤_, _<_}
+use Prim.Native.Nat.{ℕ, _+_, _*_, _/_, _%_, _≤_, _<_}
 use lib.ListN.{getD}
 use Rattle.row.specs.Bit.{Has}
 use Rattle.row.specs.Change.{gathered}
@@ -10,20 +10,8 @@ use Rattle.row.specs.Test.{AllSpread, Reflexive, RowsInclude, WordIncludes}
 use Rattle.row.specs.Below.{BlocksBelow, RowsBelow}
 use Rattle.closure.specs.declared.Counts.{Counts}
 use Rattle.closure.specs.declared.Layout.{Layout}
-use Rattle.closure.specs.Layout.{conceptLimit, itemLimit, roleLimit}
-
--- one more than the largest half of a role's word
-abbrev pub halfSize : ℕ
-halfSize = 2 ^ roleLimit
-
--- two halves of a role's word as one, the first of them the lower
-abbrev pub paired : ℕ → ℕ → ℕ
-paired x y = y * halfSize + x
-
--- a role's word, its halves changed if u is true
-abbrev pub turned : Bool → ℕ → ℕ
-turned false w = w
-turned true w = paired (w / halfSize) (w % halfSize)
+use Rattle.closure.specs.Layout.{conceptLimit, itemLimit, roleLimit, width}
+use Rattle.closure.specs.RoleWord.{paired, turned}
 
 -- bit k of a role's word is a step, plain or to the inverse, to one of n roles
 abbrev pub RoleBit : ℕ → ℕ → Type 0

@@ -1,24 +1,17 @@
-ghost use mathlib.Core.Path.{_≡_};
 ghost use mathlib.Core.Bool.{Bool};
 ghost use Prim.Native.Nat.{ℕ, _+_, _≤_, _<_};
 ghost use lib.ListN.{length, getD};
 ghost use Rattle.logic.specs.Decides.{Decides};
 ghost use Rattle.row.specs.Bit.{Has};
 ghost use Rattle.row.specs.Test.{WordIncludes};
-ghost use Rattle.closure.specs.Layout.{Fits, Laid, ClosedStore, roleLimit};
-ghost use Rattle.closure.specs.Closed.{Clean, ConceptRules, ItemRules, LinkRules, PairIncludes, RoleBit, RoleRules, RoleSteps, RolesBelow, SameRules, turned};
+ghost use Rattle.closure.specs.Layout.{Fits, Laid, ClosedStore, roleLimit, width};
+ghost use Rattle.closure.specs.Closed.{Clean, ConceptRules, ItemRules, LinkRules, PairIncludes, RoleBit, RoleRules, RoleSteps, RolesBelow, SameRules};
+ghost use Rattle.closure.specs.RoleWord.{turned};
 use crate::Counts;
 use crate::Layout;
 
 // One more than the largest half of a role's word.
 const HALF: u64 = 65536;
-
-// A role's word with its halves changed.
-fn swapped(w: u64) -> u64
-    ensures { λ r. ⌜ r ≡ turned Bool.true w ⌝ }
-{
-    w % HALF * HALF + w / HALF
-}
 
 // Whether every bit of a role's word is a step, plain or to the inverse, to one of n roles.
 fn role_bits(w: u64, n: usize) -> bool
@@ -115,7 +108,7 @@ fn role_closed(s: &[u64], at: usize, n: usize, r: usize) -> bool
     if !row::test::word_includes(s, w, at, n) {
         return false;
     }
-    row::test::word_includes(s, swapped(w), at, n)
+    row::test::word_includes(s, crate::role_under::turn_word(true, w), at, n)
 }
 
 // The same for each of the n roles.

@@ -11,9 +11,11 @@ use Rattle.closure.specs.declared.Counts.{Counts}
 use Rattle.closure.specs.Cell.{turn}
 use Rattle.closure.specs.Cell.Cell.{Same, Under, RoleUnder, In, Link}
 use Rattle.closure.specs.Layout.{Holds, ClosedStore, itemLimit, layoutOf, linkAt, roleAt, side}
-use Rattle.closure.specs.Closed.{ConceptRules, ItemRules, LinkRules, RoleRules, SameRules, pairWord, turned}
+use Rattle.closure.specs.Closed.{ConceptRules, ItemRules, LinkRules, RoleRules, SameRules, pairWord}
+use Rattle.closure.specs.RoleWord.{turned}
 use Rattle.closure.specs.laws.Parts.{Step, link-place, part-row, store-parts}
-use Rattle.closure.specs.laws.Halves.{has-turned, turn-false, turned-has}
+use Rattle.closure.specs.laws.Halves.{has-turned, turned-has}
+use Rattle.closure.specs.laws.FormRole.{turn-false}
 use Rattle.closure.specs.laws.Clean.{role-small, store-clean}
 use Rattle.closure.specs.laws.Pairs.{first-block, narrow, pair-gets, pair-has, widen, word-bit}
 

@@ -7,13 +7,12 @@ use Prim.Native.Nat.{ℕ, _+_, _-_, _^_, _<_}
 use native.Mathlib.Omega.{arith}
 use lib.ListN.{getD}
 use Rattle.row.specs.Bit.{Words}
-use Rattle.row.specs.laws.Bit.{at-place, has-lt}
+use Rattle.row.specs.laws.Bit.{at-place, has-lt, bits-lt}
 use Rattle.closure.specs.declared.Counts.{Counts}
 use Rattle.closure.specs.Cell.{Within}
 use Rattle.closure.specs.Layout.{Fits, ClosedStore, layoutOf, roleAt, roleLimit, side}
 use Rattle.closure.specs.Closed.{Clean, RoleBit}
 use Rattle.closure.specs.laws.Parts.{Parts, Step, link-place, store-parts}
-use Rattle.closure.specs.laws.Halves.{bits-lt}
 
 step-bit : (n : ℕ) (u : Bool) (k o : ℕ) → k ≡ side u + o → o < n → RoleBit n k
 step-bit n false k o e l = inl (omega arith)
@@ -45,7 +44,7 @@ clean-parts {W} {n} {s} c = record {
 
 -- a role's word has no bit above its two halves
 pub role-small : {W : ℕ} {n : Counts} {s : List ℕ} → Fits W n → Words 64 s → Clean (layoutOf W) n s → (r : ℕ) → r < roleLimit → getD s (roleAt W + r) 0 < 2 ^ 32
-role-small {n = n} f ws c r l = bits-lt _ 32 (ws _) (λ k x. small k (c .role r l k x .1))
+role-small {n = n} f ws c r l = bits-lt 64 32 (ws _) (λ k x. small k (c .role r l k x .1))
   where
     small : (k : ℕ) → RoleBit (n .roles) k → k < 32
     small k (inl y) = omega (arith, f .roles)

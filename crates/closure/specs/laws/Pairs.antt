@@ -15,7 +15,8 @@ use Rattle.closure.specs.declared.Layout.{Layout}
 use Rattle.closure.specs.Cell.{Cell}
 use Rattle.closure.specs.Cell.Cell.{Link}
 use Rattle.closure.specs.Layout.{Fits, Holds, layoutOf, roleLimit, side}
-use Rattle.closure.specs.Closed.{PairIncludes, halfSize, linkWord, pairWord}
+use Rattle.closure.specs.Closed.{PairIncludes, linkWord, pairWord}
+use Rattle.closure.specs.RoleWord.{halfSize}
 use Rattle.closure.specs.laws.Parts.{link-place}
 use Rattle.closure.specs.laws.Halves.{has-paired, paired-has}
 

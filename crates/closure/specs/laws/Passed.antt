@@ -14,7 +14,8 @@ use Rattle.closure.specs.Cell.Cell.{Same, Under, RoleUnder, In, Link}
 use Rattle.closure.specs.Layout.{Fits, Holds, ClosedStore, itemLimit, layoutOf, roleAt, side, size}
 use Rattle.closure.specs.Closed.{Clean, ConceptRules, ItemRules, LinkRules, RoleRules, SameRules}
 use Rattle.closure.specs.laws.Parts.{link-place, parts-clean}
-use Rattle.closure.specs.laws.Halves.{has-turned, turn-false, turned-has}
+use Rattle.closure.specs.laws.Halves.{has-turned, turned-has}
+use Rattle.closure.specs.laws.FormRole.{turn-false}
 use Rattle.closure.specs.laws.Clean.{clean-parts, role-small}
 use Rattle.closure.specs.laws.Pairs.{along, narrow, pair-gets, pair-has, widen}
 

@@ -1,9 +1,10 @@
 -- `closure::closed::role_closed` meets its contract. Assumes nothing.
-use borrow.Author.Needs.{needs}
 use mathlib.Core.Bool.{true, false}
+use borrow.Author.Needs.{needs}
 use borrow.Author.Tests.{not-true, not-false}
 use Rattle.logic.specs.laws.Decides.{decides-iff, decides-no}
 use Rattle.closure.specs.laws.Halves.{both-turns}
+use Rattle.closure.specs.RoleWord.{turned}
 use Rattle.closure.proofs.closed.role_closed.Statement.{statement}
 use Rattle.closure.proofs.closed.role_closed.Tie as tie
 
@@ -20,16 +21,17 @@ word-includes-requires : tie.Need-word-includes-requires
 word-includes-requires c κs = search needs
 
 returns : tie.Need-returns
+unfolding turned
 returns c = decides-no (λ f. c .before .word-includes .ensures .fails (not-true _ (c .if1 .taken)) (f false))
 
-swapped-requires : tie.Need-swapped-requires
-swapped-requires c κs = search needs
+turn-word-requires : tie.Need-turn-word-requires
+turn-word-requires c κs = search needs
 
 word-includes-requires-2 : tie.Need-word-includes-requires-2
 word-includes-requires-2 c κs = search needs
 
 returns-2 : tie.Need-returns-2
-returns-2 c = decides-iff (both-turns (c .before .before .before .before .before .before .args .s .now) _ (c .before .before .before .before .before .before .args .at) (c .before .before .before .before .before .before .args .n) (c .before .before .before .word-includes .ensures .holds (not-false _ (c .before .before .if1 .left)))) (λ f. f true) (rw (c .before .swapped .ensures) at (c .word-includes2 .ensures))
+returns-2 c = decides-iff (both-turns (c .before .before .before .before .before .before .args .s .now) _ (c .before .before .before .before .before .before .args .at) (c .before .before .before .before .before .before .args .n) (c .before .before .before .word-includes .ensures .holds (not-false _ (c .before .before .if1 .left)))) (λ f. f true) (rw (c .before .turn-word .ensures) at (c .word-includes2 .ensures))
 
 pub role-closed-spec : {M : Type 1} → statement M
 role-closed-spec =
@@ -40,6 +42,6 @@ role-closed-spec =
     shared-slice-read-w
     word-includes-requires
     returns
-    swapped-requires
+    turn-word-requires
     word-includes-requires-2
     returns-2)
