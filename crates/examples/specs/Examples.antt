@@ -16,6 +16,7 @@ use Rattle.closure.specs.Promise.{Keeps, Adds}
 abbrev pub twoItems : Counts
 twoItems = record { items = 2; concepts = 0; roles = 0 }
 
+-- all the examples that are marked P so far
 pub record Examples : Type 0 where
   -- R under inverse of R, R links a to b: R links b to a
   pub own-inverse : {n : Counts} {s : List ℕ} {r a b : ℕ} → ClosedStore width n s → Holds width n s (RoleUnder r true r) → Holds width n s (Link r a b) → Holds width n s (Link r b a)
