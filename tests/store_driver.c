@@ -294,7 +294,7 @@ static void run_commands(void)
 /* --- Timing: always 128 items, 32 concepts and 16 roles. --- */
 
 enum {
-    TIMED_CALLS = 3000,  /* of each kind */
+    TIMED_CALLS = 1000,  /* of each kind */
     ROUND = 5            /* calls before the store is set back, so that it stays as filled */
 };
 
