@@ -1,0 +1,10 @@
+-- What is proved of the rules' definitions.
+pub mod Form
+pub mod Tree
+pub mod Findings
+pub mod Look
+pub mod Row
+pub mod Articles
+pub mod Holding
+pub mod Short
+pub mod Found
