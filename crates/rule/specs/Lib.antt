@@ -4,5 +4,6 @@ pub mod Expr
 pub mod Meaning
 pub mod Breaks
 pub mod Findings
+pub mod Promise
 pub mod Row
 pub mod laws

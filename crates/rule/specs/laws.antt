@@ -2,6 +2,7 @@
 pub mod Form
 pub mod Tree
 pub mod Findings
+pub mod Refusals
 pub mod Look
 pub mod Row
 pub mod Articles

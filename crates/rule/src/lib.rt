@@ -85,3 +85,21 @@ pub struct Finding {
     pub item: Item,
     pub second: Second,
 }
+
+// Why a rule is refused.
+pub enum RuleRefusal {
+    // The store is not as long as it must be, or a declared count is over its limit: 1.
+    Size,
+    // The store is not closed: 2.
+    NotClosed,
+    // The rule is malformed: 3.
+    Malformed,
+    // An item, concept or role number is not below its count: 4.
+    Number,
+}
+
+// How many findings a rule has, or why it is refused.
+pub enum Total {
+    Count(u64),
+    Refused(RuleRefusal),
+}
