@@ -1,20 +1,58 @@
 -- The examples of document 01 that are marked P, as one list: a field each, in the document's words.
 use mathlib.Core.Path.{_≡_}
 use mathlib.Core.Bool.{true, false}
-use mathlib.Core.List.{List}
+use mathlib.Core.List.{List, [], _∷_}
 use Prim.Native.Nat.{ℕ, _<_}
+use lib.ListN.{length}
 use Rattle.row.specs.Bit.{Words}
 use Rattle.closure.specs.declared.Counts.{Counts}
 use Rattle.closure.specs.declared.Answer.{Answer}
 use Rattle.closure.specs.declared.Answer.the-variants.{Cells}
+use Rattle.closure.specs.declared.Statement.{Statement}
+use Rattle.closure.specs.declared.Statement.the-variants as statement
 use Rattle.closure.specs.Cell.{Nothing}
 use Rattle.closure.specs.Cell.Cell.{Same, RoleUnder, Link}
 use Rattle.closure.specs.Layout.{ClosedStore, Holds, width}
 use Rattle.closure.specs.Promise.{Keeps, Adds}
+use Rattle.closure.specs.Lines.{Stated}
+use Rattle.rule.specs.declared.Finding.{Finding}
+use Rattle.rule.specs.declared.Head.the-variants.{Sub, Ref}
+use Rattle.rule.specs.declared.Node.the-variants.{Name, AtLeast}
+use Rattle.rule.specs.declared.RoleUse.{RoleUse}
+use Rattle.rule.specs.declared.Rule.{Rule}
+use Rattle.rule.specs.Form.{nodeAt}
+use Rattle.rule.specs.Findings.{Findings}
 
 -- two items, nothing else
 abbrev pub twoItems : Counts
 twoItems = record { items = 2; concepts = 0; roles = 0 }
+
+-- a rule `ref R` of whatever role, with no nodes
+pub record IsRef (u : Rule) : Type 0 where
+  pub role : RoleUse
+  pub head : u .head ≡ Ref role
+
+-- three items (0 c, 1 d1, 2 d2), two concepts (0 C, 1 D), one role (0 R)
+abbrev pub threeItems : Counts
+threeItems = record { items = 3; concepts = 2; roles = 1 }
+
+-- c in C, linked to d1 and d2 in D
+abbrev pub twoLinks : List Statement
+twoLinks =
+    statement.In (record { 0 = 0 }) (record { 0 = 0 }) ∷ statement.Link (record { 0 = 0 }) (record { 0 = 0 }) (record { 0 = 1 })
+    ∷ statement.Link (record { 0 = 0 }) (record { 0 = 0 }) (record { 0 = 2 }) ∷ statement.In (record { 0 = 1 }) (record { 0 = 1 })
+    ∷ statement.In (record { 0 = 2 }) (record { 0 = 1 }) ∷ []
+
+-- d1 same as d2
+abbrev pub sameLinks : Statement
+sameLinks = statement.Same (record { 0 = 1 }) (record { 0 = 2 })
+
+-- the rule `sub C atleast 2 R D`: node 0 is C, node 1 at least 2 R of node 2, node 2 is D
+pub record IsAtLeast2 (u : Rule) : Type 0 where
+  pub head : u .head ≡ Sub 0 1
+  pub left : nodeAt (u .nodes) 0 ≡ Name (record { 0 = 0 })
+  pub right : nodeAt (u .nodes) 1 ≡ AtLeast 2 (record { role = record { 0 = 0 }; inverse = false }) 2
+  pub filler : nodeAt (u .nodes) 2 ≡ Name (record { 0 = 1 })
 
 -- all the examples that are marked P so far
 pub record Examples : Type 0 where
@@ -27,3 +65,14 @@ pub record Examples : Type 0 where
   pub same-itself : {n : Counts} {s t : List ℕ} {a : ℕ} {r : Answer} → a < n .items → Words 64 s → Words 64 t → Keeps width n Nothing s → Adds width n (Same a a) s t r → r ≡ Cells 0
   -- `same a b`, two items, nothing else: 2
   pub same-two : {s t : List ℕ} {r : Answer} → Keeps width twoItems Nothing s → Adds width twoItems (Same 0 1) s t r → r ≡ Cells 2
+  -- no items, `ref`: 0 findings
+  pub ref-none : {n : Counts} {s : List ℕ} {k : ℕ} {u : Rule} {fs : List Finding} → n .items ≡ 0 → IsRef u → Findings (Holds width n s) n k u fs → length fs ≡ 0
+  -- one item, no links, `ref`: 1
+  pub ref-one : {n : Counts} {s : List ℕ} {k : ℕ} {u : Rule} {fs : List Finding} → n .items ≡ 1 → ((r a b : ℕ) → ¬ (Holds width n s (Link r a b))) → IsRef u
+      → Findings (Holds width n s) n k u fs → length fs ≡ 1
+  -- c in C, linked to d1 and d2 in D: `sub C atleast 2 R D` 0 findings
+  pub two-articles : {s : List ℕ} {k : ℕ} {u : Rule} {fs : List Finding} → Keeps width threeItems (Stated twoLinks) s → IsAtLeast2 u → Findings (Holds width threeItems s) threeItems k u fs
+      → length fs ≡ 0
+  -- with d1 same as d2: 1
+  pub one-article : {s : List ℕ} {k : ℕ} {u : Rule} {fs : List Finding} → Keeps width threeItems (Stated (sameLinks ∷ twoLinks)) s → IsAtLeast2 u
+      → Findings (Holds width threeItems s) threeItems k u fs → length fs ≡ 1

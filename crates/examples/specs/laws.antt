@@ -1,3 +1,4 @@
 -- The proof of the examples.
 pub mod Store
+pub mod Rules
 pub mod Proved

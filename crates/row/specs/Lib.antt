@@ -2,6 +2,7 @@
 pub mod Bit
 pub mod Row
 pub mod Change
+pub mod Pick
 pub mod Test
 pub mod Below
 pub mod laws

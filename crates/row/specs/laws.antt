@@ -10,3 +10,4 @@ pub mod Diagonal
 pub mod Test
 pub mod Count
 pub mod Below
+pub mod Pick

@@ -3,4 +3,5 @@ pub mod below;
 pub mod bit;
 pub mod change;
 pub mod copy;
+pub mod pick;
 pub mod test;

@@ -1,6 +1,7 @@
 -- The examples hold. Assumes nothing.
 use Rattle.examples.specs.Examples.{Examples}
 use Rattle.examples.specs.laws.Store.{same-itself, same-two}
+use Rattle.examples.specs.laws.Rules.{ref-none, ref-one, two-articles, one-article}
 
 -- all of them
 pub examples : Examples
@@ -9,4 +10,8 @@ examples = record {
   inverse-twice = λ k x y. k .closed .obeys .role-trans x y;
   same-itself = same-itself;
   same-two = same-two;
+  ref-none = ref-none;
+  ref-one = ref-one;
+  two-articles = two-articles;
+  one-article = one-article;
 }

@@ -1,0 +1,72 @@
+ghost use mathlib.Core.Path.{_≡_};
+ghost use Prim.Native.Nat.{_*_, _<_};
+ghost use lib.ListN.{length};
+ghost use Rattle.logic.specs.Decides.{Decides};
+ghost use Rattle.row.specs.Pick.{Empty, Least, Marked, Met, Without, room};
+ghost use Rattle.row.specs.Row.{RowHas};
+
+// A row with no number.
+pub fn empty() -> [u64; 8]
+    ensures { λ r. ⌜ Empty r ⌝ }
+{
+    [0u64; 8]
+}
+
+// Whether x is in the row.
+pub fn has(r: &[u64; 8], x: usize) -> bool
+    requires { ⌜ x < 64 * room ⌝ }
+    ensures { λ b. ⌜ Decides b (RowHas (now (r .entry)) x) ⌝ }
+{
+    let h = x / 64;
+    crate::bit::has_bit(r[h], (x % 64) as u64)
+}
+
+// The row takes on x, if `on`.
+pub fn mark(r: &mut [u64; 8], x: usize, on: bool)
+    requires { ⌜ (length (now r) ≡ room) × (x < 64 * room) ⌝ }
+    ensures { λ _. ⌜ Marked on x (now (r .entry)) (now (r .exit)) ⌝ }
+{
+    let h = x / 64;
+    r[h] = crate::bit::or_if(on, crate::bit::one_bit((x % 64) as u64), r[h]);
+}
+
+// What both rows have.
+pub fn meet(a: &[u64; 8], b: &[u64; 8]) -> [u64; 8]
+    ensures { λ r. ⌜ Met (now (a .entry)) (now (b .entry)) r ⌝ }
+{
+    let mut r = [0u64; 8];
+    let mut h = 0;
+    while h < 8 {
+        r[h] = a[h] & b[h];
+        h += 1;
+    }
+    r
+}
+
+// What the row a has and the row b has not.
+pub fn without(a: &[u64; 8], b: &[u64; 8]) -> [u64; 8]
+    ensures { λ r. ⌜ Without (now (a .entry)) (now (b .entry)) r ⌝ }
+{
+    let mut r = [0u64; 8];
+    let mut h = 0;
+    while h < 8 {
+        r[h] = a[h] ^ (a[h] & b[h]);
+        h += 1;
+    }
+    r
+}
+
+// The least number of the row; if it has none, the number of its bits.
+pub fn least(r: &[u64; 8]) -> usize
+    ensures { λ x. ⌜ Least (now (r .entry)) x ⌝ }
+{
+    let mut h = 0;
+    while h < 8 {
+        let t = u64::trailing_zeros(r[h]) as usize;
+        if t < 64 {
+            return h * 64 + t;
+        }
+        h += 1;
+    }
+    64 * 8
+}

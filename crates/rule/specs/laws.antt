@@ -1,0 +1,11 @@
+-- What is proved of the rules' definitions.
+pub mod Form
+pub mod Tree
+pub mod Findings
+pub mod Refusals
+pub mod Look
+pub mod Row
+pub mod Articles
+pub mod Holding
+pub mod Short
+pub mod Found

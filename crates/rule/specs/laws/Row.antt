@@ -1,0 +1,44 @@
+-- Laws of the rows that mark what has a property. Assumes nothing.
+use mathlib.Core.Path.{_≡_, refl, sym, subst}
+use mathlib.Core.Logic.{_⊎_, inl, inr}
+use mathlib.Core.Bool.{Bool, true, false}
+use mathlib.Core.List.{List}
+use Prim.Native.Nat.{ℕ, _+_, _≤_, _<_}
+use native.Mathlib.Omega.{arith}
+use native.Mathlib.Decide.{ℕ-discrete}
+use Rattle.logic.specs.Decides.{Decides}
+use Rattle.row.specs.Row.{RowHas}
+use Rattle.row.specs.Pick.{Empty, Marked}
+use Rattle.rule.specs.Row.{Marks, Among}
+
+-- an empty row marks all that there is below 0
+pub marks-none : {r : List ℕ} {P : ℕ → Type 0} → Empty r → Marks 0 r P
+marks-none e = record { sound = λ x h. absurd (e .none x h); whole = λ x l p. absurd (omega arith) }
+
+-- one number more
+pub marks-more : {i : ℕ} {s t : List ℕ} {P : ℕ → Type 0} {on : Bool} → Marks i s P → Decides on (P i) → Marked on i s t → Marks (i + 1) t P
+marks-more {i} {s} {t} {P} {on} m d e = record { sound = λ x h. sound x (e .only x h); whole = λ x l p. whole x l p (ℕ-discrete x i) }
+  where
+    sound : (x : ℕ) → RowHas s x ⊎ ((on ≡ true) × (x ≡ i)) → (x < i + 1) × P x
+    sound x (inl h) = (omega (arith, m .sound x h .0), m .sound x h .1)
+    sound x (inr h) = (omega (arith, h .1), subst P (sym (h .1)) (d .holds (h .0)))
+
+    told : (b : Bool) → on ≡ b → P i → on ≡ true
+    told true q p = q
+    told false q p = absurd (d .fails q p)
+
+    whole : (x : ℕ) → x < i + 1 → P x → Dec (x ≡ i) → RowHas t x
+    whole x l p (yes q) = subst (λ (y : ℕ). RowHas t y) (sym q) (e .gets (told on refl (subst P q p)))
+    whole x l p (no q) = e .keeps x (m .whole x (omega arith) p)
+
+-- after the last number
+pub marks-done : {i n : ℕ} {r : List ℕ} {P : ℕ → Type 0} → Marks i r P → i ≤ n → n ≤ i → Marks n r P
+marks-done m h l = record { sound = λ x b. (omega (arith, m .sound x b .0), m .sound x b .1); whole = λ x lx p. m .whole x (omega arith) p }
+
+-- what means the same is marked by the same row
+pub marks-iff : {n : ℕ} {r : List ℕ} {P Q : ℕ → Type 0} → ((x : ℕ) → x < n → P x → Q x) → ((x : ℕ) → x < n → Q x → P x) → Marks n r P → Marks n r Q
+marks-iff f g m = record { sound = λ x h. let p = m .sound x h in (p .0, f x (p .0) (p .1)); whole = λ x l q. m .whole x l (g x l q) }
+
+-- a row that marks, among the numbers below n
+pub marks-among : {n : ℕ} {r : List ℕ} {P : ℕ → Type 0} → Marks n r P → Among n r P
+marks-among m = record { sound = λ x l h. m .sound x h .1; whole = m .whole }
