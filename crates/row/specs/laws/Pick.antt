@@ -90,8 +90,13 @@ zipped-met {s} {t} z l = record {
 abbrev pub less : ℕ → ℕ → ℕ
 less a b = bitXor a (bitAnd a b)
 
+bit-lt : (a k : ℕ) → a / 2 ^ k % 2 < 2
+bit-lt a k = mod-lt (a / 2 ^ k) (omega arith)
+
 xor-bit : (a b k : ℕ) → bitXor a b / 2 ^ k % 2 ≡ differ (a / 2 ^ k % 2) (b / 2 ^ k % 2)
-xor-bit a b k = ap (λ (x : ℕ). x % 2) (xor-shr a b k ∙ xor-step (a / 2 ^ k) (b / 2 ^ k)) ∙ digits-mod (bitXor (a / 2 ^ k / 2) (b / 2 ^ k / 2)) (differ-lt (a / 2 ^ k % 2) (b / 2 ^ k % 2) (mod-lt _ (omega arith)) (mod-lt _ (omega arith)))
+xor-bit a b k =
+    ap (λ (x : ℕ). x % 2) (xor-shr a b k ∙ xor-step (a / 2 ^ k) (b / 2 ^ k))
+    ∙ digits-mod (bitXor (a / 2 ^ k / 2) (b / 2 ^ k / 2)) (differ-lt (a / 2 ^ k % 2) (b / 2 ^ k % 2) (bit-lt a k) (bit-lt b k))
   where
     differ-lt : (x y : ℕ) → x < 2 → y < 2 → differ x y < 2
     differ-lt zero y hx hy = hy
@@ -99,9 +104,6 @@ xor-bit a b k = ap (λ (x : ℕ). x % 2) (xor-shr a b k ∙ xor-step (a / 2 ^ k)
     differ-lt (suc zero) (suc zero) hx hy = omega arith
     differ-lt (suc zero) (suc (suc y)) hx hy = absurd (omega arith)
     differ-lt (suc (suc x)) (suc y) hx hy = absurd (omega arith)
-
-bit-lt : (a k : ℕ) → a / 2 ^ k % 2 < 2
-bit-lt a k = mod-lt (a / 2 ^ k) (omega arith)
 
 bit-off : (a k : ℕ) → ¬ (Has a k) → a / 2 ^ k % 2 ≡ 0
 bit-off a k n = go (ℕ-discrete (a / 2 ^ k % 2) 1)

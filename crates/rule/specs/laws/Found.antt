@@ -17,7 +17,6 @@ use Rattle.closure.specs.Layout.{ClosedStore, Fits, Holds, itemLimit, linkAt, w
 use Rattle.closure.specs.laws.Parts.{item-lt}
 use Rattle.closure.specs.laws.InLaws.{row-same, same-row}
 use Rattle.closure.specs.laws.Cells.{holds?}
-use Rattle.closure.specs.laws.Least.{least}
 use Rattle.rule.specs.declared.RoleUse.{RoleUse}
 use Rattle.rule.specs.Meaning.{Articles}
 use Rattle.rule.specs.Row.{Among, Found}

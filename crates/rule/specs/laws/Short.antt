@@ -30,7 +30,7 @@ module _ {W : ℕ} {n : Counts} {s : List ℕ} (k : ClosedStore W n s) where
   unfolding HoldsOf
   bot-none x h = h tt
 
-  -- C or D: what C or D holds of
+  -- either C D: what C holds of and what D holds of
   pub either-holds : (c d : Expr) (x : ℕ) → HoldsOf (Holds W n s) n (either c d) x ↔ (HoldsOf (Holds W n s) n c x ⊎ HoldsOf (Holds W n s) n d x)
   unfolding HoldsOf
   either-holds c d x = (λ h. go h (store-holdsOf? k c x) (store-holdsOf? k d x), λ y h. ⊎-elim (h .0) (h .1) y)
@@ -56,7 +56,7 @@ module _ {W : ℕ} {n : Counts} {s : List ℕ} (k : ClosedStore W n s) where
       go [] e f = absurd (omega arith)
       go (y ∷ ys) e f = (y, f y first)
 
-  -- only R C: C holds of every declared item that is linked
+  -- every R C: C holds of every declared item that is linked
   pub every-holds : (u : RoleUse) (c : Expr) (x : ℕ)
       → HoldsOf (Holds W n s) n (every u c) x ↔ ((b : ℕ) → DeclaredItem n b → Linked (Holds W n s) u x b → HoldsOf (Holds W n s) n c b)
   unfolding HoldsOf
