@@ -18,7 +18,8 @@ import oracle_rules
 import store_cases
 from oracle import LIMITS, WORDS, Counts
 from oracle_rules import HEAD_WORDS, NO_ITEM, NODE_FIELDS, NODE_LIMIT, NODE_WORDS, RULE_FIELDS, RULE_WORDS
-from store_cases import HUGE, WRONG_LENGTHS, changed_words, filled, require, wrong_numbers_for
+from store_cases import (HUGE, WRONG_LENGTHS, changed_words, counts_of_call, filled, require,
+                         wrong_numbers_for)
 
 RULES_A_STORE = 8
 WRONG_RULE_LENGTHS = (0, 1, 12, 172, 174, 346)
@@ -280,10 +281,11 @@ class RuleDrawer(store_cases.Drawer):
     def draft(self, kind, size):
         return lay_out(self.rng, self.rule(kind, size))
 
-    # A draft of a rule with expressions of few nodes.
-    def small_draft(self):
+    # A draft of a rule with expressions, mostly of few nodes.
+    def draft_with_expressions(self):
         kind = self.rng.choice(("sub", "in"))
-        return self.draft(kind, self.rng.randint(RULE_FIELDS[kind].count("node"), 8))
+        few = self.rng.randint(RULE_FIELDS[kind].count("node"), 8)
+        return self.draft(kind, self.rng.choice((few, few, few, few, 31, NODE_LIMIT)))
 
     # The words of a rule of any kind.
     def any_words(self):
@@ -301,7 +303,7 @@ def drawn_rules(commands, seed, number):
     counts = draw_counts(rng)
     commands.load(draw_words(rng, counts))
     for _ in range(RULES_A_STORE):
-        commands.ask(rng, counts, RuleDrawer(rng, counts).any_words())
+        commands.ask(rng, counts_of_call(rng, counts), RuleDrawer(rng, counts).any_words())
 
 
 # Rules of exactly 32 nodes: long nests, wide trees, and everything between.
@@ -313,6 +315,34 @@ def full_rules(commands, seed, rounds):
         for kind in ("sub", "in", "sub"):
             words = RuleDrawer(rng, counts).draft(kind, NODE_LIMIT).words(rng)
             require(commands.ask(rng, counts, words) >= 0, "the oracle refuses a rule of 32 nodes")
+
+
+# Rules about the last numbers that can be declared.
+LAST_NUMBERS_RULES = (
+    ("in", ("name", 31), 127),
+    ("in", ("one", 64), 127),
+    ("sub", ("name", 31), ("name", 30)),
+    ("sub", ("top",), ("at least", 8, 15, 1, ("name", 31))),
+    ("sub", ("self", 15, 1), ("one", 127)),
+    ("rsub", 15, 1, 14, 0),
+    ("dis", 14, 0, 15, 1),
+    ("chain", 2, 15, 0, 15, 1, 0, 0, 0, 0, 15, 0),
+    ("ref", 15, 0),
+    ("irr", 15, 1),
+    ("rel", 15, 0, 127, 64),
+    ("norel", 15, 1, 127, 63),
+    ("same", 127, 63),
+    ("differ", 127, 127),
+)
+
+
+# Rules about the last numbers, over stores of as many items, concepts and roles as there can be.
+def last_numbers(commands, seed, rounds):
+    for number in range(rounds):
+        rng = commands.part(seed, "last-numbers", number)
+        commands.load(draw_words(rng, LIMITS))
+        for rule in LAST_NUMBERS_RULES:
+            require(commands.ask(rng, LIMITS, lay_out(rng, rule).words(rng)) >= 0, "the oracle refuses the last numbers")
 
 
 # The cells of a store in which every role but those from `apart` on links all to all.
@@ -334,30 +364,31 @@ def nest(depth, count, role, last):
     return last
 
 
-# Rules for a store in which role 15 links nothing and every other role all to all.
+# Rules for a store in which role 15 links nothing and every other role all to all, and the number
+# of their findings, first if all items are different, then if all are the same.
 FULL_STORE_RULES = (
-    ("dis", 0, 0, 14, 1),
-    ("rsub", 3, 1, 15, 0),
-    ("rsub", 15, 0, 3, 1),
-    ("chain", 4, 0, 0, 1, 1, 2, 0, 3, 1, 15, 0),
-    ("chain", 2, 0, 0, 15, 1, 0, 0, 0, 0, 15, 0),
-    ("ref", 15, 0),
-    ("irr", 7, 1),
-    ("sub", nest(30, 1, 7, ("top",)), ("one", 127)),
-    ("sub", nest(30, 8, 7, ("top",)), ("one", 127)),
-    ("sub", ("top",), nest(30, 8, 7, ("not", ("top",)))[4]),
-    ("in", nest(31, 8, 7, ("self", 0, 1)), 127),
+    (("dis", 0, 0, 14, 1), (16384, 16384)),
+    (("rsub", 3, 1, 15, 0), (16384, 16384)),
+    (("rsub", 15, 0, 3, 1), (0, 0)),
+    (("chain", 4, 0, 0, 1, 1, 2, 0, 3, 1, 15, 0), (16384, 16384)),
+    (("chain", 2, 0, 0, 15, 1, 0, 0, 0, 0, 15, 0), (0, 0)),
+    (("ref", 15, 0), (128, 128)),
+    (("irr", 7, 1), (128, 128)),
+    (("sub", nest(30, 1, 7, ("top",)), ("one", 127)), (127, 0)),
+    (("sub", nest(30, 8, 7, ("top",)), ("one", 127)), (127, 0)),
+    (("sub", ("top",), nest(29, 8, 7, ("not", ("top",)))), (128, 128)),
+    (("in", nest(31, 8, 7, ("self", 0, 1)), 127), (0, 1)),
 )
 
 
 # The largest lists of findings there are, and rules of 32 nodes over as many links as there can be.
 def full_stores(commands, seed):
-    for merged in (False, True):
+    for merged in (0, 1):
+        rng = commands.part(seed, "full-store", merged)
         commands.load(oracle.words_of(all_linked(LIMITS, merged, 15)))
-        rng = commands.part(seed, "full-store", int(merged))
-        for rule in FULL_STORE_RULES:
-            commands.ask(rng, LIMITS, lay_out(rng, rule).words(rng))
-        require(commands.findings > 0, "the oracle finds nothing in a full store")
+        for rule, due in FULL_STORE_RULES:
+            result = commands.ask(rng, LIMITS, lay_out(rng, rule).words(rng))
+            require(result == due[merged], "the oracle finds another number in a full store")
 
 
 # Out lists of many lengths, for every kind of rule.
@@ -428,7 +459,7 @@ def examples(commands, seed):
 # A draft of a rule with expressions, drawn until something holds of it.
 def draft_with(drawer, wanted):
     while True:
-        draft = drawer.small_draft()
+        draft = drawer.draft_with_expressions()
         if wanted(draft):
             return draft
 
@@ -461,7 +492,7 @@ def with_wrong_length(drawer):
 # Rules without their last node, and the place that used it: in the head if `by_head`, else in a node.
 def without_last(drawer, by_head):
     while True:
-        draft = drawer.small_draft()
+        draft = drawer.draft_with_expressions()
         part, at = draft.drop_last()
         if (part is draft.head) == by_head:
             return draft, part, at
@@ -514,13 +545,13 @@ def with_later_user(drawer):
 def with_unused(drawer):
     for kind in RULE_FIELDS:
         unused = drawer.expression(drawer.rng.choice((1, 1, 2, 3)))
-        yield lay_out(drawer.rng, drawer.rule(kind, 4), (unused,))
+        yield lay_out(drawer.rng, drawer.rule(kind, drawer.rng.choice((2, 4, 29))), (unused,))
 
 
 # Rules of every kind with a node that only itself uses, or with two that only use each other.
 def with_circle(drawer):
     for kind in RULE_FIELDS:
-        draft = drawer.draft(kind, 4)
+        draft = drawer.draft(kind, drawer.rng.choice((2, 4, 30)))
         new = len(draft.nodes)
         draft.nodes += drawer.rng.choice(([["not", new]], [["at least", 1, 0, 0, new]], [["not", new + 1], ["not", new]]))
         yield draft
@@ -703,5 +734,6 @@ def write_all(commands, seed, rules, rounds):
     damaged_stores(commands, seed, 2 * rounds)
     full_rules(commands, seed, 4 * rounds)
     full_stores(commands, seed)
+    last_numbers(commands, seed, rounds)
     for number in range(rules // RULES_A_STORE):
         drawn_rules(commands, seed, number)

@@ -18,8 +18,8 @@
  *
  * After every call the result and all words of the store, the rule and the out
  * list are compared, also the words kept around those lent. The first difference
- * is printed and ends the program with 1. A call that does not come back within
- * some seconds ends it by a signal.
+ * is printed and ends the program with 1. A call that fails, or does not come back
+ * within some seconds, ends it by a signal; which call it was is printed.
  */
 #define _POSIX_C_SOURCE 199309L
 
@@ -27,6 +27,7 @@
 #include "saltreeve.h"
 
 #include <inttypes.h>
+#include <signal.h>
 #include <stdio.h>
 #include <stdlib.h>
 #include <string.h>
@@ -37,6 +38,7 @@ enum {
     GUARD_WORDS = 64,    /* kept before and after the words lent */
     MOST_WORDS = 65536,  /* the longest list that can be lent */
     NAME_BYTES = 32,
+    PLACE_BYTES = 256,
     CALL_SECONDS = 20
 };
 
@@ -57,6 +59,9 @@ struct run {
     char part[NAME_BYTES];
     uint64_t part_number, part_calls, calls;
 };
+
+/* Where the test is, as text for the case that it ends there. */
+static char place[PLACE_BYTES];
 
 /* Ends the program because the commands make no sense. */
 static void stop(const char *why)
@@ -177,13 +182,39 @@ static void print_words(const char *name, const struct lent *lent)
         printf("a word outside the %s was changed\n", name);
 }
 
+/* Notes where the test is. */
+static void note_place(const struct run *run)
+{
+    snprintf(place, sizeof place,
+             "difference in %s %" PRIu64 ", call %" PRIu64 ", which is call %" PRIu64 " of all, out list of %zu words\n",
+             run->part, run->part_number, run->part_calls, run->calls, run->out.length);
+}
+
+/* Says where the test is when a signal stops a call, and lets the signal end the program. */
+static void on_signal(int number)
+{
+    static const char WHY[] = "the call was stopped by a signal\n";
+    ssize_t written = write(STDOUT_FILENO, place, strlen(place));
+    if (written >= 0)
+        written = write(STDOUT_FILENO, WHY, sizeof WHY - 1);
+    signal(number, SIG_DFL);
+    raise(number);
+}
+
+/* Has the signals that stop a call say where the test is. */
+static void watch_signals(void)
+{
+    static const int STOPPING[] = {SIGALRM, SIGABRT, SIGSEGV, SIGBUS, SIGFPE, SIGILL};
+    for (size_t i = 0; i < sizeof STOPPING / sizeof STOPPING[0]; i++)
+        signal(STOPPING[i], on_signal);
+}
+
 /* Ends the program if the result or a word is not what it should be. */
 static void compare_call(const struct run *run, int64_t got)
 {
     if (got == run->result && as_due(&run->store) && as_due(&run->rule) && as_due(&run->out))
         return;
-    printf("difference in %s %" PRIu64 ", call %" PRIu64 ", which is call %" PRIu64 " of all, out list of %zu words\n",
-           run->part, run->part_number, run->part_calls, run->calls, run->out.length);
+    printf("%s", place);
     printf("result: expected %" PRId64 ", got %" PRId64 "\n", run->result, got);
     print_words("store", &run->store);
     print_words("rule", &run->rule);
@@ -196,6 +227,7 @@ static void call_once(struct run *run)
 {
     run->calls++;
     run->part_calls++;
+    note_place(run);
     alarm(CALL_SECONDS);
     int64_t got = trial_findings(run->store.words, run->store.length, run->items, run->concepts, run->roles,
                                  run->rule.words, run->rule.length, run->out.words, run->out.length);
@@ -252,6 +284,7 @@ static void run_commands(void)
 {
     static struct run run;
     char word[NAME_BYTES];
+    watch_signals();
     while (read_word(word)) {
         if (strcmp(word, "part") == 0)
             do_part(&run);
@@ -274,68 +307,51 @@ static void run_commands(void)
 /* --- Timing: always 128 items, 32 concepts and 16 roles. --- */
 
 enum {
-    TIMED_CALLS = 100,                                  /* of each rule at most */
-    APART = SALTREEVE_ROLES - 1,                        /* the role that may link nothing */
-    EMPTY = SALTREEVE_CONCEPTS - 1,                     /* the concept without items */
-    PAIRS = SALTREEVE_ITEMS * SALTREEVE_ITEMS,
-    NESTED = TRIAL_NODES - 2                            /* at leasts in a nest, its last node and the other root left */
+    TIMED_CALLS = 100,               /* of each rule, if they are quick */
+    APART = SALTREEVE_ROLES - 1,     /* the role that links nothing in some stores */
+    EMPTY = SALTREEVE_CONCEPTS - 1,  /* the concept that no item is in */
+    PAIRS = SALTREEVE_ITEMS * SALTREEVE_ITEMS
 };
 
-static const double TIMED_SECONDS = 0.5;                /* for each rule, if a call is quick */
+static const double TIMED_SECONDS = 0.2;  /* after which a rule is called no more */
 
-/* The kinds of rules and of nodes. */
-enum { SUB, RSUB, CHAIN, REF, IRR, DIS, IN };
-enum { NAME, TOP, NOT, AND, AT_LEAST };
+/* The kinds of rules and of nodes that are timed. */
+enum { SUB = 0, RSUB = 1, CHAIN = 2, IRR = 4, DIS = 5, IN = 6 };
+enum { NAME = 0, TOP = 1, AND = 3, AT_LEAST = 4 };
 
-/* A store to be timed on, and its kind in words. */
-struct timed_store {
-    const char *name;
-    int merged;        /* all items are the same */
-    uint64_t linking;  /* the roles below this one link all to all and are under each other both ways */
-    uint64_t words[SALTREEVE_WORDS];
-};
-
-/* A rule to be timed; the last words are for a list of its findings. */
+typedef uint64_t timed_store[SALTREEVE_WORDS];
 typedef uint64_t timed_rule[TRIAL_RULE_WORDS];
 
-/* The lowest `count` bits. */
-static uint64_t low_bits(uint64_t count)
-{
-    return ((uint64_t)1 << count) - 1;
-}
-
-/* Makes items the same, each as itself or all as all. */
-static void fill_same(struct timed_store *store)
+/* Makes each item the same as itself, or all items the same. */
+static void fill_same(timed_store w, int merged)
 {
     for (uint64_t a = 0; a < SALTREEVE_ITEMS; a++) {
-        uint64_t own = (uint64_t)1 << a % 64;
-        store->words[2 * a] = store->merged ? UINT64_MAX : a < 64 ? own : 0;
-        store->words[2 * a + 1] = store->merged ? UINT64_MAX : a < 64 ? 0 : own;
+        w[2 * a] = w[2 * a + 1] = merged ? UINT64_MAX : 0;
+        w[2 * a + a / 64] |= (uint64_t)1 << a % 64;
     }
 }
 
-/* Puts every item into every concept but the empty one, and each concept under itself. */
-static void fill_concepts(struct timed_store *store)
+/* Puts every item into every concept but the empty one, and each concept under itself only. */
+static void fill_concepts(timed_store w)
 {
     for (uint64_t A = 0; A < SALTREEVE_CONCEPTS; A++)
-        store->words[256 + A] = (uint64_t)1 << A;
+        w[256 + A] = (uint64_t)1 << A;
     for (uint64_t a = 0; a < SALTREEVE_ITEMS; a++)
-        store->words[304 + a] = low_bits(EMPTY);
+        w[304 + a] = ((uint64_t)1 << EMPTY) - 1;
 }
 
-/* Puts the linking roles under each other both ways and lets them link all to all. */
-static void fill_roles(struct timed_store *store)
+/* Lets the roles below `linking` link all to all and be under each other both ways. */
+static void fill_roles(timed_store w, uint64_t linking)
 {
-    uint64_t ring = low_bits(store->linking);
+    uint64_t ring = ((uint64_t)1 << linking) - 1;
     for (uint64_t R = 0; R < SALTREEVE_ROLES; R++) {
-        int linking = R < store->linking;
-        store->words[288 + R] = linking ? ring | ring << 16 : (uint64_t)1 << R;
+        w[288 + R] = R < linking ? ring | ring << 16 : (uint64_t)1 << R;
         for (uint64_t i = 0; i < 256; i++)
-            store->words[432 + 256 * R + i] = linking ? UINT64_MAX : 0;
+            w[432 + 256 * R + i] = R < linking ? UINT64_MAX : 0;
     }
 }
 
-/* Writes the head of a rule: its kind and four words. */
+/* Writes the head of a rule with up to four words, and no node. */
 static void head(timed_rule rule, uint64_t kind, uint64_t a, uint64_t b, uint64_t c, uint64_t d)
 {
     uint64_t words[] = {kind, a, b, c, d};
@@ -343,7 +359,7 @@ static void head(timed_rule rule, uint64_t kind, uint64_t a, uint64_t b, uint64_
     memcpy(rule, words, sizeof words);
 }
 
-/* Adds a node: its kind and four words. */
+/* Adds a node. */
 static void node(timed_rule rule, uint64_t kind, uint64_t a, uint64_t b, uint64_t c, uint64_t d)
 {
     uint64_t words[] = {kind, a, b, c, d};
@@ -351,29 +367,203 @@ static void node(timed_rule rule, uint64_t kind, uint64_t a, uint64_t b, uint64_
     rule[12]++;
 }
 
-/* Adds so many at leasts, each using the next, every second one over an inverse, and a last node. */
-static void nest(timed_rule rule, uint64_t depth, uint64_t count, uint64_t last_kind, uint64_t last)
+/* Adds so many at leasts, each around the next and every second one over an inverse; the next node is the last. */
+static void nest(timed_rule rule, uint64_t depth, uint64_t count)
 {
     for (uint64_t level = 0; level < depth; level++)
-        node(rule, AT_LEAST, count, level, level % 2, rule[12] + 1);
-    node(rule, last_kind, last, 0, 0, 0);
+        node(rule, AT_LEAST, count, level % APART, level % 2, rule[12] + 1);
 }
 
-/* in: 31 nested some around a last node, of the last item. */
-static void in_nest(timed_rule rule, uint64_t last_kind, uint64_t last)
+/* in: 31 nested some of a last node. */
+static void in_nest(timed_rule rule, uint64_t last_kind)
 {
     head(rule, IN, 0, SALTREEVE_ITEMS - 1, 0, 0);
-    for (uint64_t level = 0; level < TRIAL_NODES - 1; level++)
-        node(rule, AT_LEAST, 1, level % APART, level % 2, level + 1);
-    node(rule, last_kind, last, 0, 0, 0);
+    nest(rule, TRIAL_NODES - 1, 1);
+    node(rule, last_kind, EMPTY, 0, 0, 0);
 }
 
-/* sub: nested at leasts around a last node on the left, the empty concept on the right. */
-static void sub_nest(timed_rule rule, uint64_t count, uint64_t last_kind, uint64_t last)
+/* sub: 30 nested at leasts of a last node on the left, the empty concept on the right. */
+static void sub_nest(timed_rule rule, uint64_t count, uint64_t last_kind)
 {
-    head(rule, SUB, 0, NESTED + 1, 0, 0);
-    for (uint64_t level = 0; level < NESTED; level++)
-        node(rule, AT_LEAST, count, level % APART, level % 2, level + 1);
-    node(rule, last_kind, last, 0, 0, 0);
+    head(rule, SUB, 0, TRIAL_NODES - 1, 0, 0);
+    nest(rule, TRIAL_NODES - 2, count);
+    node(rule, last_kind, EMPTY, 0, 0, 0);
     node(rule, NAME, EMPTY, 0, 0, 0);
+}
+
+/* in: 31 nested some of top. */
+static void in_some_top(timed_rule rule)
+{
+    in_nest(rule, TOP);
+}
+
+/* in: 31 nested some of the empty concept. */
+static void in_some_empty(timed_rule rule)
+{
+    in_nest(rule, NAME);
+}
+
+/* sub: 30 nested some of top. */
+static void sub_some_top(timed_rule rule)
+{
+    sub_nest(rule, 1, TOP);
+}
+
+/* sub: 30 nested some of the empty concept. */
+static void sub_some_empty(timed_rule rule)
+{
+    sub_nest(rule, 1, NAME);
+}
+
+/* sub: 30 nested at least 8 of top. */
+static void sub_eight_top(timed_rule rule)
+{
+    sub_nest(rule, 8, TOP);
+}
+
+/* sub: 30 nested at least 8 of the empty concept. */
+static void sub_eight_empty(timed_rule rule)
+{
+    sub_nest(rule, 8, NAME);
+}
+
+/* sub: a tree of 15 ands over 16 concepts, as wide as it can be. */
+static void sub_wide_and(timed_rule rule)
+{
+    head(rule, SUB, 0, TRIAL_NODES - 1, 0, 0);
+    for (uint64_t n = 0; n < 15; n++)
+        node(rule, AND, 2 * n + 1, 2 * n + 2, 0, 0);
+    for (uint64_t A = 0; A < 16; A++)
+        node(rule, NAME, A, 0, 0, 0);
+    node(rule, NAME, EMPTY, 0, 0, 0);
+}
+
+/* sub: a tree of 15 ands over 16 concepts, as deep as it can be. */
+static void sub_deep_and(timed_rule rule)
+{
+    head(rule, SUB, 0, TRIAL_NODES - 1, 0, 0);
+    for (uint64_t n = 0; n < 30; n += 2) {
+        node(rule, AND, n + 1, n + 2, 0, 0);
+        node(rule, NAME, n / 2, 0, 0, 0);
+    }
+    node(rule, NAME, 15, 0, 0, 0);
+    node(rule, NAME, EMPTY, 0, 0, 0);
+}
+
+/* chain: four roles, of which two are inverses, and the last role. */
+static void chain_of_four(timed_rule rule)
+{
+    static const uint64_t FIELDS[] = {4, 0, 0, 1, 1, 2, 0, 3, 1, APART, 0};
+    head(rule, CHAIN, 0, 0, 0, 0);
+    memcpy(rule + 1, FIELDS, sizeof FIELDS);
+}
+
+/* rsub: a role and the one that may link nothing. */
+static void rsub_pair(timed_rule rule)
+{
+    head(rule, RSUB, 0, 1, APART, 0);
+}
+
+/* dis: two roles. */
+static void dis_pair(timed_rule rule)
+{
+    head(rule, DIS, 0, 0, 1, 1);
+}
+
+/* irr: one role. */
+static void irr_one(timed_rule rule)
+{
+    head(rule, IRR, 0, 0, 0, 0);
+}
+
+/* What is timed: the rule, the roles that link, the words of the out list, and the findings due. */
+struct timing {
+    const char *name;
+    void (*build)(timed_rule);
+    uint64_t linking;
+    size_t room;
+    int64_t due_merged, due_different;
+};
+
+static const struct timing TIMINGS[] = {
+    {"irr", irr_one, 16, 2 * PAIRS, 128, 128},
+    {"in, 31 nested some of top", in_some_top, 16, 2 * PAIRS, 0, 0},
+    {"in, 31 nested some of an empty concept", in_some_empty, 16, 2 * PAIRS, 1, 1},
+    {"sub, 30 nested some of top", sub_some_top, 16, 2 * PAIRS, 128, 128},
+    {"sub, 30 nested some of an empty concept", sub_some_empty, 16, 2 * PAIRS, 0, 0},
+    {"sub, 30 nested at least 8 of top", sub_eight_top, 16, 2 * PAIRS, 0, 128},
+    {"sub, 30 nested at least 8 of an empty concept", sub_eight_empty, 16, 2 * PAIRS, 0, 0},
+    {"sub, wide tree of 15 ands", sub_wide_and, 16, 2 * PAIRS, 128, 128},
+    {"sub, deep tree of 15 ands", sub_deep_and, 16, 2 * PAIRS, 128, 128},
+    {"chain of 4, nothing found", chain_of_four, 16, 2 * PAIRS, 0, 0},
+    {"chain of 4, all pairs found", chain_of_four, 15, 2 * PAIRS, PAIRS, PAIRS},
+    {"dis, all pairs found and listed", dis_pair, 16, 2 * PAIRS, PAIRS, PAIRS},
+    {"dis, all pairs found, none listed", dis_pair, 16, 0, PAIRS, PAIRS},
+    {"rsub, nothing found", rsub_pair, 16, 2 * PAIRS, 0, 0},
+    {"rsub, all pairs found and listed", rsub_pair, 15, 2 * PAIRS, PAIRS, PAIRS},
+};
+
+/* Seconds since some fixed moment. */
+static double seconds(void)
+{
+    struct timespec now;
+    clock_gettime(CLOCK_MONOTONIC, &now);
+    return (double)now.tv_sec + (double)now.tv_nsec / 1e9;
+}
+
+/* Makes one call; a result that is not due ends the program. */
+static void timed_call(const timed_store w, const timed_rule rule, size_t room, int64_t due)
+{
+    static uint64_t out[2 * PAIRS];
+    alarm(CALL_SECONDS);
+    int64_t got = trial_findings(w, SALTREEVE_WORDS, SALTREEVE_ITEMS, SALTREEVE_CONCEPTS, SALTREEVE_ROLES,
+                                 rule, TRIAL_RULE_WORDS, out, room);
+    alarm(0);
+    if (got != due) {
+        printf("expected %" PRId64 " findings, got %" PRId64 "\n", due, got);
+        exit(1);
+    }
+}
+
+/* Times one rule on a store of all items the same or all different, and prints one line. */
+static void time_rule(const struct timing *timing, int merged)
+{
+    static timed_store w;
+    timed_rule rule;
+    int calls = 0;
+    int64_t due = merged ? timing->due_merged : timing->due_different;
+    fill_same(w, merged);
+    fill_concepts(w);
+    fill_roles(w, timing->linking);
+    timing->build(rule);
+    printf("%-13s %-46s", merged ? "all the same" : "all different", timing->name);
+    fflush(stdout);
+    double start = seconds(), spent = 0;
+    for (; calls < TIMED_CALLS && spent < TIMED_SECONDS; calls++) {
+        timed_call(w, rule, timing->room, due);
+        spent = seconds() - start;
+    }
+    printf("%12.2f microseconds a call (%d calls, %" PRId64 " findings)\n", spent * 1e6 / calls, calls, due);
+}
+
+/* Prints the times of all rules on both kinds of store. */
+static void run_times(void)
+{
+    for (int merged = 1; merged >= 0; merged--)
+        for (size_t i = 0; i < sizeof TIMINGS / sizeof TIMINGS[0]; i++)
+            time_rule(&TIMINGS[i], merged);
+}
+
+/* Runs the commands or the timing. */
+int main(int argc, char **argv)
+{
+    if (argc == 2 && strcmp(argv[1], "--time") == 0)
+        run_times();
+    else if (argc == 1)
+        run_commands();
+    else {
+        fprintf(stderr, "usage: rule_driver [--time]\n");
+        return 2;
+    }
+    return 0;
 }

@@ -1,0 +1,595 @@
+/*
+ * A plain stand-in for rules by number, to try the tests on.
+ *
+ * It has the same face as the test library and looks at item after item. The
+ * store is judged by the other stand-in, tests/reference_store.c, which it is
+ * linked with. It is slow and proves nothing. The self-test also builds it with
+ * one fault planted, -DRULE_FAULT=ALWAYS_0 or another of those listed below, and asks
+ * that the tests find it.
+ */
+#include "rule_trial.h"
+#include "saltreeve.h"
+
+#include <stdlib.h>
+
+enum fault {
+    NO_FAULT,
+    ALWAYS_0,                 /* no rule has a finding */
+    ALWAYS_REFUSED,           /* every rule is refused with 3 */
+    TOTAL_ONE_MORE,           /* the total is one too many */
+    TOTAL_OF_THE_LISTED,      /* the total counts only what fits into the list */
+    SKIPS_ONE,                /* the next finding after the first is passed over */
+    SECOND_BEFORE_FIRST,      /* pairs go by their second item first */
+    LOWEST_NAMES_ONLY,        /* of two names for an article only one is found */
+    PAIRS_ONCE,               /* of x, y and y, x only one is found */
+    INVERSE_PAIR_TURNED,      /* the pair of an inverse role is given the other way round */
+    NONE_IS_0,                /* no second item is written as 0 */
+    COUNTS_NAMES,             /* at least counts linked names, not articles */
+    COUNTS_PAST_N,            /* at least n asks for more than n */
+    COUNTS_ALL_LINKED,        /* at least forgets its C */
+    INVERSE_FORWARDS,         /* an inverse is read like the role itself */
+    INVERSE_ONLY_1,           /* of the numbers for an inverse only 1 is known */
+    ONE_ONLY_ITSELF,          /* one a holds of a alone, not of what is the same */
+    SELF_INVERSE_WRONG,       /* self through an inverse never holds */
+    AND_IS_OR,                /* C and D holds where one of them does */
+    FIRST_64_ITEMS,           /* items from 64 on are linked to nothing */
+    CHAIN_ONE_SHORT,          /* a path stops one role before its end */
+    CHAIN_END_TWICE,          /* an end that two last steps lead to is found twice */
+    CHAIN_LAST_FORWARDS,      /* the last role of a chain is never an inverse */
+    CHAIN_FOURTH_FORWARDS,    /* the fourth role of a path is never an inverse */
+    SECOND_ROLE_FORWARDS,     /* the second role of rsub and dis is never an inverse */
+    CONCEPT_31_EMPTY,         /* the last of 32 concepts holds of nothing */
+    KINDS_OF_32_BITS,         /* the high half of a kind is lost */
+    WRITES_PAST_THE_TOTAL,    /* a record after the last finding is written */
+    WRITES_HALF_A_RECORD,     /* the last word of an odd list is written */
+    WRITES_PAST_THE_LIST,     /* a word after the list is written */
+    REFUSAL_WRITES,           /* a refusal writes to the list */
+    CHANGES_THE_STORE,        /* the store's last word is changed */
+    CHANGES_THE_RULE,         /* the rule's last word is changed */
+    NUMBERS_BEFORE_SHAPE,     /* 4 is given where 3 is due */
+    SHAPE_BEFORE_CLOSED,      /* 3 is given where 2 is due */
+    RULE_BEFORE_SIZE,         /* 3 is given where 1 is due */
+    STORE_UNASKED,            /* a store that is not closed is taken */
+    LONG_RULE_TAKEN,          /* a rule of more than 173 words is taken */
+    NODES_33_TAKEN,           /* 33 nodes are taken */
+    NODES_OF_32_BITS,         /* the high half of the number of nodes is lost */
+    LIMIT_ONE_LESS,           /* 32 nodes are refused */
+    COUNT_0_TAKEN,            /* a count of 0 is taken */
+    COUNT_9_TAKEN,            /* a count over 8 is taken */
+    COUNT_8_REFUSED,          /* a count of 8 is refused */
+    CHAIN_1_TAKEN,            /* a chain of less than 2 is taken */
+    CHAIN_5_TAKEN,            /* a chain of more than 4 is taken as one of 4 */
+    USE_OF_NOTHING_TAKEN,     /* a use of one of the 32 nodes that is not there is taken */
+    NODE_USED_TWICE_TAKEN,    /* two uses, both in order, are taken */
+    LATER_USES_PASSED,        /* uses by later nodes and by itself do not count */
+    LATER_USER_TAKEN,         /* a node's one user may be a later one */
+    NODE_USED_BY_ITSELF,      /* a node's one user may be itself */
+    UNUSED_NODE_TAKEN,        /* a node may be unused */
+    SAME_ROOTS_TAKEN,         /* both roots may be the same */
+    ROOT_AS_CHILD_TAKEN,      /* a root may also be used by an earlier node */
+    NODES_FOR_NOTHING_TAKEN,  /* a rule without expressions may have nodes */
+    UNUSED_SLOTS_ASKED,       /* 4 is asked of a chain's roles past its length */
+    UNUSED_NODES_ASKED,       /* 4 is asked of nodes past their number */
+    LAST_ROLE_UNASKED,        /* 4 is not asked of a chain's last role */
+    NODE_NUMBERS_UNASKED,     /* 4 is not asked of nodes */
+    SECOND_ITEM_UNASKED,      /* 4 is not asked of the second item */
+    NUMBERS_OF_32_BITS,       /* 4 is asked of the low half of a number */
+    STOPS_THE_PROGRAM,        /* the first chain stops the program */
+    ENDS_THE_PROGRAM          /* the first chain ends the program as if all were well */
+};
+
+#ifndef RULE_FAULT
+#define RULE_FAULT NO_FAULT
+#endif
+
+enum { REFUSED_SIZE = -1, REFUSED_NOT_CLOSED = -2, REFUSED_MALFORMED = -3, REFUSED_NUMBER = -4, WRONG_LENGTH = -99 };
+enum { SUB, RSUB, CHAIN, REF, IRR, DIS, IN, REL, NOREL, SAME, DIFFER };
+enum { NAME, TOP, NOT, AND, AT_LEAST, SELF, ONE };
+enum { ITEMS = SALTREEVE_ITEMS, NODES = TRIAL_NODES };
+
+/* A call: the store, its counts, and the rule. */
+struct call {
+    const uint64_t *w;
+    uint64_t items, concepts, roles;
+    const uint64_t *rule;
+};
+
+/* Where findings go: the caller's list, and how many there were. */
+struct list {
+    uint64_t *out;
+    size_t length;
+    int64_t total;
+};
+
+/* What the nodes hold of. */
+typedef int table[NODES][ITEMS];
+
+/* --- The words of a rule --- */
+
+/* A kind as it is read; numbers without a kind are read as `other`. */
+static uint64_t kind_of(uint64_t word, uint64_t most, uint64_t other)
+{
+    if (RULE_FAULT == KINDS_OF_32_BITS)
+        word = (uint32_t)word;
+    return word <= most ? word : other;
+}
+
+/* The kind of a rule. */
+static uint64_t rule_kind(const uint64_t *rule)
+{
+    return kind_of(rule[0], DIFFER, DIFFER);
+}
+
+/* The words of a node. */
+static const uint64_t *node_at(const uint64_t *rule, uint64_t n)
+{
+    return rule + 13 + 5 * n;
+}
+
+/* The kind of a node. */
+static uint64_t node_kind(const uint64_t *node)
+{
+    return kind_of(node[0], ONE, TOP);
+}
+
+/* The number of nodes as it is read. */
+static uint64_t node_count(const uint64_t *rule)
+{
+    uint64_t count = RULE_FAULT == NODES_OF_32_BITS ? (uint32_t)rule[12] : rule[12];
+    return RULE_FAULT == NODES_33_TAKEN && count == NODES + 1 ? NODES : count;
+}
+
+/* How many roots a rule has: words 1 and 2, or only word 1. */
+static int root_count(const uint64_t *rule)
+{
+    return rule_kind(rule) == SUB ? 2 : rule_kind(rule) == IN ? 1 : 0;
+}
+
+/* How many nodes a node uses. */
+static int child_count(const uint64_t *node)
+{
+    uint64_t kind = node_kind(node);
+    return kind == AND ? 2 : kind == NOT || kind == AT_LEAST ? 1 : 0;
+}
+
+/* A node's child. */
+static uint64_t child(const uint64_t *node, int which)
+{
+    return node_kind(node) == AT_LEAST ? node[4] : node[1 + which];
+}
+
+/* --- Refusal 3 --- */
+
+/* Whether a use is of a node that is there. */
+static int there(const uint64_t *rule, uint64_t used)
+{
+    return used < (RULE_FAULT == USE_OF_NOTHING_TAKEN ? NODES : node_count(rule));
+}
+
+/* Whether all uses are of nodes that are there. */
+static int uses_there(const uint64_t *rule)
+{
+    for (int i = 0; i < root_count(rule); i++)
+        if (!there(rule, rule[1 + i]))
+            return 0;
+    for (uint64_t n = 0; n < node_count(rule); n++)
+        for (int i = 0; i < child_count(node_at(rule, n)); i++)
+            if (!there(rule, child(node_at(rule, n), i)))
+                return 0;
+    return 1;
+}
+
+/* How often a node is a root. */
+static int uses_as_root(const uint64_t *rule, uint64_t n)
+{
+    int uses = 0;
+    for (int i = 0; i < root_count(rule); i++)
+        uses += rule[1 + i] == n;
+    return RULE_FAULT == SAME_ROOTS_TAKEN && uses == 2 ? 1 : uses;
+}
+
+/* How often a node is used by the nodes from..to-1. */
+static int uses_by(const uint64_t *rule, uint64_t n, uint64_t from, uint64_t to)
+{
+    int uses = 0;
+    for (uint64_t user = from; user < to; user++)
+        for (int i = 0; i < child_count(node_at(rule, user)); i++)
+            uses += child(node_at(rule, user), i) == n;
+    return uses;
+}
+
+/* Whether a node is used as it should be. */
+static int used_once(const uint64_t *rule, uint64_t n)
+{
+    int root = uses_as_root(rule, n), earlier = uses_by(rule, n, 0, n);
+    int itself = uses_by(rule, n, n, n + 1), later = uses_by(rule, n, n + 1, node_count(rule));
+    int all = root + earlier + itself + later;
+    if (RULE_FAULT == NODE_USED_TWICE_TAKEN && all == 2 && itself + later == 0)
+        return 1;
+    if (RULE_FAULT == LATER_USES_PASSED)
+        return root + earlier == 1;
+    if (RULE_FAULT == LATER_USER_TAKEN && all == 1 && later == 1)
+        return 1;
+    if (RULE_FAULT == NODE_USED_BY_ITSELF && all == 1 && itself == 1)
+        return 1;
+    if ((RULE_FAULT == UNUSED_NODE_TAKEN || (RULE_FAULT == NODES_FOR_NOTHING_TAKEN && root_count(rule) == 0)) && all == 0)
+        return 1;
+    if (RULE_FAULT == ROOT_AS_CHILD_TAKEN && root == 1 && earlier == 1)
+        return 1;
+    return all == 1 && root + earlier == 1;
+}
+
+/* Whether a count is in order. */
+static int count_stands(uint64_t count)
+{
+    uint64_t least = RULE_FAULT == COUNT_0_TAKEN ? 0 : 1, most = RULE_FAULT == COUNT_8_REFUSED ? 7 : 8;
+    return count >= least && (count <= most || RULE_FAULT == COUNT_9_TAKEN);
+}
+
+/* Whether all nodes are used as they should be, and all counts are in order. */
+static int nodes_stand(const uint64_t *rule)
+{
+    for (uint64_t n = 0; n < node_count(rule); n++) {
+        const uint64_t *node = node_at(rule, n);
+        if (!used_once(rule, n) || (node_kind(node) == AT_LEAST && !count_stands(node[1])))
+            return 0;
+    }
+    return 1;
+}
+
+/* Whether the length of a chain is in order. */
+static int length_stands(uint64_t length)
+{
+    return (length >= 2 || RULE_FAULT == CHAIN_1_TAKEN) && (length <= 4 || RULE_FAULT == CHAIN_5_TAKEN);
+}
+
+/* Whether a rule is malformed. */
+static int malformed(const uint64_t *rule)
+{
+    uint64_t most = RULE_FAULT == LIMIT_ONE_LESS ? NODES - 1 : NODES;
+    if (RULE_FAULT == ALWAYS_REFUSED || node_count(rule) > most)
+        return 1;
+    if (rule_kind(rule) == CHAIN && !length_stands(rule[1]))
+        return 1;
+    return !uses_there(rule) || !nodes_stand(rule);
+}
+
+/* --- Refusal 4 --- */
+
+/* Whether a number is below its count. */
+static int below(uint64_t number, uint64_t count)
+{
+    return (RULE_FAULT == NUMBERS_OF_32_BITS ? (uint32_t)number : number) < count;
+}
+
+/* A chain's length, as far as there are roles. */
+static uint64_t chain_length(const uint64_t *rule)
+{
+    return rule[1] < 4 ? rule[1] : 4;
+}
+
+/* Whether the roles of a chain are declared. */
+static int chain_declared(const struct call *c)
+{
+    uint64_t asked = RULE_FAULT == UNUSED_SLOTS_ASKED ? 4 : chain_length(c->rule);
+    for (uint64_t i = 0; i < asked; i++)
+        if (!below(c->rule[2 + 2 * i], c->roles))
+            return 0;
+    return RULE_FAULT == LAST_ROLE_UNASKED || below(c->rule[10], c->roles);
+}
+
+/* Whether the numbers in the head of a rule are declared. */
+static int head_declared(const struct call *c)
+{
+    const uint64_t *rule = c->rule;
+    switch (rule_kind(rule)) {
+    case SUB: return 1;
+    case RSUB: case DIS: return below(rule[1], c->roles) && below(rule[3], c->roles);
+    case CHAIN: return chain_declared(c);
+    case REF: case IRR: return below(rule[1], c->roles);
+    case IN: return below(rule[2], c->items);
+    case REL: case NOREL:
+        return below(rule[1], c->roles) && below(rule[3], c->items)
+            && (RULE_FAULT == SECOND_ITEM_UNASKED || below(rule[4], c->items));
+    default: return below(rule[1], c->items) && below(rule[2], c->items);
+    }
+}
+
+/* Whether the number in a node is declared. */
+static int node_declared(const struct call *c, const uint64_t *node)
+{
+    switch (node_kind(node)) {
+    case NAME: return below(node[1], c->concepts);
+    case AT_LEAST: return below(node[2], c->roles);
+    case SELF: return below(node[1], c->roles);
+    case ONE: return below(node[1], c->items);
+    default: return 1;
+    }
+}
+
+/* Whether all numbers of a rule are declared. */
+static int declared(const struct call *c)
+{
+    uint64_t asked = node_count(c->rule) < NODES ? node_count(c->rule) : NODES;
+    if (RULE_FAULT == UNUSED_NODES_ASKED)
+        asked = NODES;
+    for (uint64_t n = 0; n < asked; n++)
+        if (RULE_FAULT != NODE_NUMBERS_UNASKED && !node_declared(c, node_at(c->rule, n)))
+            return 0;
+    return head_declared(c);
+}
+
+/* --- What holds --- */
+
+/* Whether a is the same as b. */
+static int same(const struct call *c, uint64_t a, uint64_t b)
+{
+    return c->w[2 * (a % ITEMS) + b % ITEMS / 64] >> b % 64 & 1;
+}
+
+/* Whether a role or its inverse links a to b. */
+static int linked(const struct call *c, uint64_t role, uint64_t inverse, uint64_t a, uint64_t b)
+{
+    int turned = RULE_FAULT == INVERSE_FORWARDS ? 0 : RULE_FAULT == INVERSE_ONLY_1 ? inverse == 1 : inverse != 0;
+    uint64_t from = (turned ? b : a) % ITEMS, to = (turned ? a : b) % ITEMS;
+    if (RULE_FAULT == FIRST_64_ITEMS && to >= 64)
+        return 0;
+    return c->w[432 + 2 * (ITEMS * (role % SALTREEVE_ROLES) + from) + to / 64] >> to % 64 & 1;
+}
+
+/* Whether some item below b, itself counted, is the same as b. */
+static int counted_before(const struct call *c, const int *counted, uint64_t b)
+{
+    for (uint64_t earlier = 0; earlier < b; earlier++)
+        if (counted[earlier] && same(c, earlier, b))
+            return 1;
+    return 0;
+}
+
+/* Whether at least n R C holds of a. */
+static int at_least_holds(const struct call *c, table holds, const uint64_t *node, uint64_t a)
+{
+    int counted[ITEMS] = {0};
+    uint64_t number = 0;
+    for (uint64_t b = 0; b < c->items; b++) {
+        int fits = linked(c, node[2], node[3], a, b) && (RULE_FAULT == COUNTS_ALL_LINKED || holds[node[4]][b]);
+        counted[b] = fits && (RULE_FAULT == COUNTS_NAMES || !counted_before(c, counted, b));
+        number += counted[b];
+    }
+    return RULE_FAULT == COUNTS_PAST_N ? number > node[1] : number >= node[1];
+}
+
+/* Whether a node holds of a, when it is known what the later nodes hold of. */
+static int node_holds(const struct call *c, table holds, const uint64_t *node, uint64_t a)
+{
+    switch (node_kind(node)) {
+    case NAME: return !(RULE_FAULT == CONCEPT_31_EMPTY && node[1] == 31) && (c->w[304 + a] >> node[1] % 64 & 1);
+    case NOT: return !holds[node[1]][a];
+    case AND:
+        if (RULE_FAULT == AND_IS_OR)
+            return holds[node[1]][a] || holds[node[2]][a];
+        return holds[node[1]][a] && holds[node[2]][a];
+    case AT_LEAST: return at_least_holds(c, holds, node, a);
+    case SELF: return !(RULE_FAULT == SELF_INVERSE_WRONG && node[2] != 0) && linked(c, node[1], node[2], a, a);
+    case ONE: return RULE_FAULT == ONE_ONLY_ITSELF ? node[1] == a : same(c, node[1], a);
+    default: return 1;
+    }
+}
+
+/* Works out what all nodes hold of, the last node first. */
+static void fill_table(const struct call *c, table holds)
+{
+    for (uint64_t left = node_count(c->rule); left > 0; left--)
+        for (uint64_t a = 0; a < c->items; a++)
+            holds[left - 1][a] = node_holds(c, holds, node_at(c->rule, left - 1), a);
+}
+
+/* --- What breaks a rule --- */
+
+/* Notes a finding. */
+static void found(struct list *list, uint64_t first, uint64_t second)
+{
+    size_t at = 2 * (size_t)list->total++;
+    if (RULE_FAULT == NONE_IS_0 && second == TRIAL_NO_ITEM)
+        second = 0;
+    if (at + 1 < list->length || (RULE_FAULT == WRITES_HALF_A_RECORD && at < list->length))
+        list->out[at] = first;
+    if (at + 1 < list->length)
+        list->out[at + 1] = second;
+}
+
+/* How many last steps of a chain's path lead from x to each item. */
+static void path_ends(const struct call *c, uint64_t x, int ends[ITEMS])
+{
+    uint64_t length = chain_length(c->rule) - (RULE_FAULT == CHAIN_ONE_SHORT);
+    for (uint64_t b = 0; b < c->items; b++)
+        ends[b] = b == x;
+    for (uint64_t i = 0; i < length; i++) {
+        int further[ITEMS] = {0};
+        uint64_t inverse = RULE_FAULT == CHAIN_FOURTH_FORWARDS && i == 3 ? 0 : c->rule[3 + 2 * i];
+        for (uint64_t b = 0; b < c->items; b++)
+            for (uint64_t y = 0; y < c->items; y++)
+                further[y] += ends[b] && linked(c, c->rule[2 + 2 * i], inverse, b, y);
+        for (uint64_t y = 0; y < c->items; y++)
+            ends[y] = further[y];
+    }
+}
+
+/* How often a pair breaks a rule about pairs; `ends` is for a chain. */
+static int pair_breaks(const struct call *c, const int *ends, uint64_t x, uint64_t y)
+{
+    const uint64_t *r = c->rule;
+    uint64_t inverse = RULE_FAULT == SECOND_ROLE_FORWARDS ? 0 : r[4];
+    if (rule_kind(r) == RSUB)
+        return linked(c, r[1], r[2], x, y) && !linked(c, r[3], inverse, x, y);
+    if (rule_kind(r) == DIS)
+        return linked(c, r[1], r[2], x, y) && linked(c, r[3], inverse, x, y);
+    if (linked(c, r[10], RULE_FAULT == CHAIN_LAST_FORWARDS ? 0 : r[11], x, y))
+        return 0;
+    return RULE_FAULT == CHAIN_END_TWICE && ends[y] > 1 ? 2 : ends[y] > 0;
+}
+
+/* Finds the pairs that break a rule. */
+static void find_pairs(const struct call *c, struct list *list)
+{
+    int ends[ITEMS] = {0};
+    for (uint64_t x = 0; x < c->items; x++) {
+        if (rule_kind(c->rule) == CHAIN)
+            path_ends(c, x, ends);
+        for (uint64_t y = RULE_FAULT == PAIRS_ONCE ? x : 0; y < c->items; y++)
+            for (int times = pair_breaks(c, ends, x, y); times > 0; times--)
+                found(list, x, y);
+    }
+}
+
+/* Finds the pairs in the wrong order. */
+static void find_pairs_by_second(const struct call *c, struct list *list)
+{
+    int ends[ITEMS] = {0};
+    for (uint64_t y = 0; y < c->items; y++)
+        for (uint64_t x = 0; x < c->items; x++) {
+            if (rule_kind(c->rule) == CHAIN)
+                path_ends(c, x, ends);
+            if (pair_breaks(c, ends, x, y))
+                found(list, x, y);
+        }
+}
+
+/* Whether an item breaks a rule about items. */
+static int item_breaks(const struct call *c, table holds, uint64_t x)
+{
+    const uint64_t *r = c->rule;
+    if (rule_kind(r) == SUB)
+        return holds[r[1]][x] && !holds[r[2]][x];
+    return linked(c, r[1], r[2], x, x) == (rule_kind(r) == IRR);
+}
+
+/* Whether some lower item is the same. */
+static int is_other_name(const struct call *c, uint64_t x)
+{
+    for (uint64_t lower = 0; lower < x; lower++)
+        if (same(c, lower, x))
+            return 1;
+    return 0;
+}
+
+/* Finds the items that break a rule. */
+static void find_items(const struct call *c, table holds, struct list *list)
+{
+    for (uint64_t x = 0; x < c->items; x++)
+        if (item_breaks(c, holds, x) && !(RULE_FAULT == LOWEST_NAMES_ONLY && is_other_name(c, x)))
+            found(list, x, TRIAL_NO_ITEM);
+}
+
+/* Finds the pair of items that a rule about a role names. */
+static void find_linked_pair(const struct call *c, struct list *list)
+{
+    const uint64_t *r = c->rule;
+    int turned = RULE_FAULT == INVERSE_PAIR_TURNED && r[2] != 0;
+    if (linked(c, r[1], r[2], r[3], r[4]) == (rule_kind(r) == NOREL))
+        found(list, turned ? r[4] : r[3], turned ? r[3] : r[4]);
+}
+
+/* Finds all that breaks a rule. */
+static void find(const struct call *c, table holds, struct list *list)
+{
+    const uint64_t *r = c->rule;
+    switch (rule_kind(r)) {
+    case SUB: case REF: case IRR:
+        find_items(c, holds, list);
+        break;
+    case RSUB: case CHAIN: case DIS:
+        (RULE_FAULT == SECOND_BEFORE_FIRST ? find_pairs_by_second : find_pairs)(c, list);
+        break;
+    case IN:
+        if (!holds[r[1]][r[2] % ITEMS])
+            found(list, r[2], TRIAL_NO_ITEM);
+        break;
+    case REL: case NOREL:
+        find_linked_pair(c, list);
+        break;
+    default:
+        if (same(c, r[1], r[2]) == (rule_kind(r) == DIFFER))
+            found(list, r[1], r[2]);
+    }
+}
+
+/* --- The call --- */
+
+/* The refusal that the store and its counts call for, or 0: asked by a statement that is never taken. */
+static int64_t store_refusal(const struct call *c, size_t length)
+{
+    int64_t refusal = saltreeve_add_under((uint64_t *)c->w, length, c->items, c->concepts, c->roles, c->concepts, 0);
+    if (refusal == REFUSED_NUMBER || (RULE_FAULT == STORE_UNASKED && refusal == REFUSED_NOT_CLOSED))
+        return 0;
+    return refusal;
+}
+
+/* The refusal that applies, or 0. */
+static int64_t refusal(const struct call *c, size_t length, size_t rule_length)
+{
+    if (rule_length != TRIAL_RULE_WORDS && !(RULE_FAULT == LONG_RULE_TAKEN && rule_length > TRIAL_RULE_WORDS))
+        return WRONG_LENGTH;
+    int64_t refused = store_refusal(c, length);
+    int early = (RULE_FAULT == SHAPE_BEFORE_CLOSED && refused == REFUSED_NOT_CLOSED)
+        || (RULE_FAULT == RULE_BEFORE_SIZE && refused == REFUSED_SIZE);
+    if (refused != 0 && !(early && malformed(c->rule)))
+        return refused;
+    if (RULE_FAULT == NUMBERS_BEFORE_SHAPE && !declared(c))
+        return REFUSED_NUMBER;
+    if (malformed(c->rule))
+        return REFUSED_MALFORMED;
+    return declared(c) ? 0 : REFUSED_NUMBER;
+}
+
+/* Passes over the second finding of a list. */
+static void skip_one(struct list *list)
+{
+    for (size_t at = 2; at + 3 < list->length && at + 2 < 2 * (size_t)list->total; at++)
+        list->out[at] = list->out[at + 2];
+    list->total -= list->total > 1;
+}
+
+/* What else some faults do. */
+static void spoil(const struct call *c, const struct list *list)
+{
+    if (RULE_FAULT == STOPS_THE_PROGRAM && rule_kind(c->rule) == CHAIN)
+        abort();
+    if (RULE_FAULT == ENDS_THE_PROGRAM && rule_kind(c->rule) == CHAIN)
+        exit(0);
+    size_t end = 2 * (size_t)list->total;
+    if (RULE_FAULT == WRITES_PAST_THE_TOTAL && end + 1 < list->length)
+        list->out[end] = list->out[end + 1] = 0;
+    if (RULE_FAULT == WRITES_PAST_THE_LIST)
+        list->out[list->length] = 0;
+    if (RULE_FAULT == CHANGES_THE_STORE)
+        ((uint64_t *)c->w)[SALTREEVE_WORDS - 1] ^= 1;
+    if (RULE_FAULT == CHANGES_THE_RULE)
+        ((uint64_t *)c->rule)[TRIAL_RULE_WORDS - 1] ^= 1;
+}
+
+/* Finds what breaks a rule. */
+int64_t trial_findings(const uint64_t *words, size_t length,
+                       uint64_t items, uint64_t concepts, uint64_t roles,
+                       const uint64_t *rule, size_t rule_length,
+                       uint64_t *out, size_t out_length)
+{
+    static table holds;
+    struct call c = {words, items, concepts, roles, rule};
+    struct list list = {out, out_length, 0};
+    int64_t refused = refusal(&c, length, rule_length);
+    if (refused != 0) {
+        if (RULE_FAULT == REFUSAL_WRITES && out_length > 0)
+            out[0] = 0;
+        return refused;
+    }
+    fill_table(&c, holds);
+    if (RULE_FAULT != ALWAYS_0)
+        find(&c, holds, &list);
+    if (RULE_FAULT == SKIPS_ONE)
+        skip_one(&list);
+    spoil(&c, &list);
+    if (RULE_FAULT == TOTAL_OF_THE_LISTED && 2 * (size_t)list.total > out_length)
+        return (int64_t)(out_length / 2);
+    return RULE_FAULT == TOTAL_ONE_MORE ? list.total + 1 : list.total;
+}
