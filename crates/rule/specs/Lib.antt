@@ -6,4 +6,8 @@ pub mod Breaks
 pub mod Findings
 pub mod Promise
 pub mod Row
+pub mod Reach
+pub mod Plan
+pub mod Cursor
+pub mod Search
 pub mod laws

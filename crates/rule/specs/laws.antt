@@ -3,9 +3,16 @@ pub mod Form
 pub mod Tree
 pub mod Findings
 pub mod Refusals
+pub mod Sorted
 pub mod Look
 pub mod Row
 pub mod Articles
 pub mod Holding
 pub mod Short
 pub mod Found
+pub mod Reach
+pub mod Plan
+pub mod Listed
+pub mod Cursor
+pub mod Exist
+pub mod Search

@@ -1,13 +1,19 @@
 // Rules by number: their form, what they mean, and what breaks them.
+pub mod breaking;
 pub mod count;
+pub mod findings;
 pub mod form;
 pub mod found;
 pub mod holding;
 pub mod look;
 pub mod nodes;
+pub mod reach;
+pub mod seek;
 
 use closure::Concept;
+use closure::Counts;
 use closure::Item;
+use closure::Layout;
 use closure::Role;
 
 // A role, or its inverse.
@@ -102,4 +108,45 @@ pub enum RuleRefusal {
 pub enum Total {
     Count(u64),
     Refused(RuleRefusal),
+}
+
+// A root of a rule: the number of its node, or none.
+pub enum Root {
+    None,
+    At(usize),
+}
+
+// What is kept of a rule while its findings are sought: its head, and the rows of what its roots hold of.
+pub struct Plan {
+    pub head: Head,
+    pub left: [u64; 8],
+    pub right: [u64; 8],
+}
+
+// Where the findings are: the plan, the places that are left in the row of x, and the least of them, y. At the end x is the number of items.
+pub struct Cursor {
+    pub plan: Plan,
+    pub row: [u64; 8],
+    pub x: usize,
+    pub y: usize,
+}
+
+// A search for findings that a writer steps: the finding at hand, the parts of the cursor there, and what it reads the store by.
+pub struct Search {
+    pub finding: Finding,
+    pub x: usize,
+    pub y: usize,
+    pub row: [u64; 8],
+    pub left: [u64; 8],
+    pub right: [u64; 8],
+    pub head: Head,
+    pub at: Layout,
+    pub counts: Counts,
+}
+
+// What a listing needs: its answer, how many findings to write, and the search at the first.
+pub struct Prepared {
+    pub answer: Total,
+    pub write: usize,
+    pub search: Search,
 }

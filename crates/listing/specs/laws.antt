@@ -1,0 +1,3 @@
+-- What is proved of the written list.
+pub mod Written
+pub mod Lists

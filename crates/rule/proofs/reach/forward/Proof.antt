@@ -1,0 +1,53 @@
+-- `rule::reach::forward` meets its contract. The loop's invariant: the links of the items below `z` are there. Assumes nothing.
+use mathlib.Core.Bool.{false}
+use Prim.Native.Nat.{_≤_, _-_}
+use native.Mathlib.Omega.{arith}
+use borrow.Author.Needs.{needs}
+use Rattle.row.specs.Row.{RowHas}
+use Rattle.closure.specs.Layout.{Holds}
+use Rattle.rule.specs.Meaning.{LinkedWay}
+use Rattle.rule.specs.Reach.{Gathered}
+use Rattle.rule.specs.laws.Reach.{gathered-none, gathered-done}
+use Rattle.rule.proofs.reach.forward.Statement.{statement}
+use Rattle.rule.proofs.reach.forward.Tie as tie
+
+abbrev Inv-loop : tie.InvT-loop
+Inv-loop words at counts role p r₀ z₀ r z = (z ≤ counts .items) × Gathered (counts .items) (LinkedWay (Holds (at .width) counts words) false role) (RowHas p) z r
+
+abbrev μ-loop : tie.MeasureT-loop
+μ-loop words at counts role p r₀ z₀ r z = counts .items - z
+
+empty-requires : tie.Need-empty-requires Inv-loop μ-loop
+empty-requires c κs = search needs
+
+loop-holds : tie.Need-loop-holds Inv-loop μ-loop
+loop-holds c = (omega arith, gathered-none (c .empty .ensures))
+
+with-links-requires : tie.Need-with-links-requires Inv-loop μ-loop
+with-links-requires c κs = search needs
+
+add-z : tie.Need-add-z Inv-loop μ-loop
+add-z c = omega arith
+
+loop-less : tie.Need-loop-less Inv-loop μ-loop
+loop-less c = omega arith
+
+loop-again : tie.Need-loop-again Inv-loop μ-loop
+loop-again c = (omega arith, c .with-links .ensures)
+
+returns : tie.Need-returns Inv-loop μ-loop
+returns c = gathered-done (c .before .before .before .before .before .args .role) (c .before .before .loop .inv .1) (omega arith)
+
+pub forward-spec : {M : Type 1} → statement M
+forward-spec =
+    tie.close
+    (tie.spec
+    Inv-loop
+    μ-loop
+    empty-requires
+    loop-holds
+    with-links-requires
+    add-z
+    loop-less
+    loop-again
+    returns)

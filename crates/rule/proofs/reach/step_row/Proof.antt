@@ -1,0 +1,28 @@
+-- `rule::reach::step_row` meets its contract, by the side that it asks. Assumes nothing.
+use borrow.Author.Needs.{needs}
+use Rattle.rule.specs.laws.Reach.{reached-none}
+use Rattle.rule.proofs.reach.step_row.Statement.{statement}
+use Rattle.rule.proofs.reach.step_row.Tie as tie
+
+backward-requires : tie.Need-backward-requires
+backward-requires c κs = search needs
+
+returns : tie.Need-returns
+returns c = rw (c .before .if1 .taken) (c .backward .ensures)
+
+empty-requires : tie.Need-empty-requires
+empty-requires c κs = search needs
+
+returns-2 : tie.Need-returns-2
+returns-2 c = rw (c .before .before .before .if1 .left) (reached-none _ (c .before .if2 .taken) (c .empty .ensures))
+
+forward-requires : tie.Need-forward-requires
+forward-requires c κs = search needs
+
+returns-3 : tie.Need-returns-3
+returns-3 c = rw (c .before .before .before .if1 .left) (c .forward .ensures)
+
+pub step-row-spec : {M : Type 1} → statement M
+step-row-spec =
+    tie.close
+    (tie.spec backward-requires returns empty-requires returns-2 forward-requires returns-3)

@@ -1,0 +1,57 @@
+-- Rows of items that paths reach.
+use mathlib.Core.Path.{_≡_}
+use mathlib.Core.List.{List, [], _∷_}
+use Prim.Native.Nat.{ℕ, _+_, _*_, _≤_, _<_}
+use lib.Bits.{bitOr}
+use lib.ListN.{length, getD, take}
+use Rattle.row.specs.Row.{RowHas}
+use Rattle.row.specs.Pick.{room}
+use Rattle.closure.specs.declared.Counts.{Counts}
+use Rattle.closure.specs.Cell.{Cell}
+use Rattle.rule.specs.declared.Head.{Head}
+use Rattle.rule.specs.declared.Head.the-variants.{Sub, RoleSub, Chain, Ref, Irr, Dis, In, Rel, NoRel, Same, Differ}
+use Rattle.rule.specs.declared.RoleUse.{RoleUse}
+use Rattle.rule.specs.Breaks.{Path}
+use Rattle.rule.specs.Row.{Marks}
+
+-- an item with the property P links to y by the relation L
+pub record Reached (L : ℕ → ℕ → Type 0) (P : ℕ → Type 0) (y : ℕ) : Type 0 where
+  pub from : ℕ
+  pub has : P from
+  pub link : L from y
+
+-- a path of the roles leads from an item with the property P to y
+pub record Ends (C : Cell → Type 0) (n : Counts) (rs : List RoleUse) (P : ℕ → Type 0) (y : ℕ) : Type 0 where
+  pub from : ℕ
+  pub has : P from
+  pub path : Path C n rs from y
+
+-- t, a row that stands alone, has the bits of the row r and of the row of s at `from`, in its first words, and no other
+pub record Together (s : List ℕ) (from width : ℕ) (r t : List ℕ) : Type 0 where
+  pub len : length t ≡ room
+  pub words : (h : ℕ) → h < width → getD t h 0 ≡ bitOr (getD r h 0) (getD s (from + h) 0)
+  pub rest : (h : ℕ) → width ≤ h → getD t h 0 ≡ 0
+
+-- r marks what the items below z with the property P link to by L
+pub record Gathered (n : ℕ) (L : ℕ → ℕ → Type 0) (P : ℕ → Type 0) (z : ℕ) (r : List ℕ) : Type 0 where
+  pub sound : (y : ℕ) → RowHas r y → (y < n) × Reached L P y
+  pub whole : (x y : ℕ) → x < z → P x → L x y → RowHas r y
+
+-- r has x, if there is room for it, and no other number
+pub record Alone (x : ℕ) (r : List ℕ) : Type 0 where
+  pub has : x < 64 * room → RowHas r x
+  pub only : (y : ℕ) → RowHas r y → y ≡ x
+
+-- the row marks the ends of a chain's paths from x; of another rule it may be any
+abbrev pub EndsOf : (Cell → Type 0) → Counts → Head → ℕ → List ℕ → Type 0
+EndsOf C n (Sub a b) x p = Unit {0}
+EndsOf C n (RoleSub r s) x p = Unit {0}
+EndsOf C n (Chain k r1 r2 r3 r4 r) x p = Marks (n .items) p (Path C n (take k (r1 ∷ r2 ∷ r3 ∷ r4 ∷ [])) x)
+EndsOf C n (Ref r) x p = Unit {0}
+EndsOf C n (Irr r) x p = Unit {0}
+EndsOf C n (Dis r s) x p = Unit {0}
+EndsOf C n (In a i) x p = Unit {0}
+EndsOf C n (Rel r i i′) x p = Unit {0}
+EndsOf C n (NoRel r i i′) x p = Unit {0}
+EndsOf C n (Same i i′) x p = Unit {0}
+EndsOf C n (Differ i i′) x p = Unit {0}

@@ -1,0 +1,224 @@
+ghost use mathlib.Core.Path.{_≡_};
+ghost use mathlib.Core.Bool.{_&&_};
+ghost use Prim.Native.Nat.{_<_};
+ghost use lib.Dec.{eqb};
+ghost use Rattle.logic.specs.Decides.{Decides};
+ghost use Rattle.row.specs.Row.{RowHas};
+ghost use Rattle.closure.specs.Layout.{ClosedStore, Holds, Laid};
+ghost use Rattle.rule.specs.Breaks.{BreaksPair};
+ghost use Rattle.rule.specs.Row.{Marks};
+ghost use Rattle.rule.specs.Reach.{EndsOf};
+ghost use Rattle.rule.specs.Plan.{BreaksBy, PlaceBreaks, Planned, RootRow, isPair, leftRoot, rightRoot};
+use crate::Head;
+use crate::Plan;
+use crate::Root;
+use crate::Rule;
+use closure::Counts;
+use closure::Item;
+use closure::Layout;
+
+// Whether x is the item a, y is the item b, and `on`.
+fn named(x: usize, a: Item, y: usize, b: Item, on: bool) -> bool
+    ensures { λ r. ⌜ r ≡ (eqb x (a .0) && (eqb y (b .0) && on)) ⌝ }
+{
+    row::bit::both(x == a.0, row::bit::both(y == b.0, on))
+}
+
+// Whether the rule is broken by the pair of x and y. For a chain, `ends` marks the ends of its paths from x.
+pub fn breaks_pair(
+    words: &[u64],
+    at: Layout,
+    counts: Counts,
+    head: Head,
+    ends: &[u64; 8],
+    x: usize,
+    y: usize,
+) -> bool
+    requires { ⌜ Laid at (now words) × ClosedStore (at .width) counts (now words) × (y < counts .items) × EndsOf (Holds (at .width) counts (now words)) counts head x (now ends) ⌝ }
+    ensures { λ r. ⌜ Decides r (BreaksPair (Holds (at .width) counts (now (words .entry))) counts head x y) ⌝ }
+{
+    match head {
+        Head::Sub(_, _) => false,
+        Head::RoleSub(u, v) => {
+            let on = crate::look::linked(words, at, counts, u, x, y);
+            row::bit::both(on, !crate::look::linked(words, at, counts, v, x, y))
+        }
+        Head::Chain(_, _, _, _, _, u) => {
+            let on = row::pick::has(ends, y);
+            row::bit::both(on, !crate::look::linked(words, at, counts, u, x, y))
+        }
+        Head::Ref(_) => false,
+        Head::Irr(_) => false,
+        Head::Dis(u, v) => {
+            let on = crate::look::linked(words, at, counts, u, x, y);
+            row::bit::both(on, crate::look::linked(words, at, counts, v, x, y))
+        }
+        Head::In(_, _) => false,
+        Head::Rel(u, a, b) => named(x, a, y, b, !crate::look::linked(words, at, counts, u, x, y)),
+        Head::NoRel(u, a, b) => named(x, a, y, b, crate::look::linked(words, at, counts, u, x, y)),
+        Head::Same(a, b) => named(x, a, y, b, !crate::look::same(words, at, counts, x, y)),
+        Head::Differ(a, b) => named(x, a, y, b, crate::look::same(words, at, counts, x, y)),
+    }
+}
+
+// Whether the rule is broken by x alone. The rows left and right are of what its roots hold of.
+pub fn breaks_alone(
+    words: &[u64],
+    at: Layout,
+    counts: Counts,
+    head: Head,
+    left: &[u64; 8],
+    right: &[u64; 8],
+    x: usize,
+) -> bool
+    requires { ⌜ Laid at (now words) × ClosedStore (at .width) counts (now words) × (x < counts .items) ⌝ }
+    ensures { λ r. ⌜ Decides r (BreaksBy (Holds (at .width) counts (now (words .entry))) (RowHas (now (left .entry))) (RowHas (now (right .entry))) head x) ⌝ }
+{
+    match head {
+        Head::Sub(_, _) => row::bit::both(row::pick::has(left, x), !row::pick::has(right, x)),
+        Head::RoleSub(_, _) => false,
+        Head::Chain(_, _, _, _, _, _) => false,
+        Head::Ref(u) => !crate::look::linked(words, at, counts, u, x, x),
+        Head::Irr(u) => crate::look::linked(words, at, counts, u, x, x),
+        Head::Dis(_, _) => false,
+        Head::In(_, a) => row::bit::both(x == a.0, !row::pick::has(left, x)),
+        Head::Rel(_, _, _) => false,
+        Head::NoRel(_, _, _) => false,
+        Head::Same(_, _) => false,
+        Head::Differ(_, _) => false,
+    }
+}
+
+// The ends of a chain's paths from x; for another rule an empty row.
+fn ends_of(words: &[u64], at: Layout, counts: Counts, head: Head, x: usize) -> [u64; 8]
+    requires { ⌜ Laid at (now words) × ClosedStore (at .width) counts (now words) × (x < counts .items) ⌝ }
+    ensures { λ r. ⌜ EndsOf (Holds (at .width) counts (now (words .entry))) counts head x r ⌝ }
+{
+    match head {
+        Head::Sub(_, _) => row::pick::empty(),
+        Head::RoleSub(_, _) => row::pick::empty(),
+        Head::Chain(k, a, b, c, d, _) => {
+            crate::reach::path_row(words, at, counts, k, a, b, c, d, x)
+        }
+        Head::Ref(_) => row::pick::empty(),
+        Head::Irr(_) => row::pick::empty(),
+        Head::Dis(_, _) => row::pick::empty(),
+        Head::In(_, _) => row::pick::empty(),
+        Head::Rel(_, _, _) => row::pick::empty(),
+        Head::NoRel(_, _, _) => row::pick::empty(),
+        Head::Same(_, _) => row::pick::empty(),
+        Head::Differ(_, _) => row::pick::empty(),
+    }
+}
+
+// The items y with which x breaks the rule.
+fn pair_row(words: &[u64], at: Layout, counts: Counts, head: Head, x: usize) -> [u64; 8]
+    requires { ⌜ Laid at (now words) × ClosedStore (at .width) counts (now words) × (x < counts .items) ⌝ }
+    ensures { λ r. ⌜ Marks (counts .items) r (BreaksPair (Holds (at .width) counts (now (words .entry))) counts head x) ⌝ }
+{
+    let ends = ends_of(words, at, counts, head, x);
+    let mut r = row::pick::empty();
+    let mut y = 0;
+    while y < counts.items {
+        let on = breaks_pair(words, at, counts, head, &ends, x, y);
+        row::pick::mark(&mut r, y, on);
+        y += 1;
+    }
+    r
+}
+
+// Whether the rule is broken by pairs.
+pub fn is_pair(head: Head) -> bool
+    ensures { λ r. ⌜ r ≡ isPair head ⌝ }
+{
+    match head {
+        Head::Sub(_, _) => false,
+        Head::RoleSub(_, _) => true,
+        Head::Chain(_, _, _, _, _, _) => true,
+        Head::Ref(_) => false,
+        Head::Irr(_) => false,
+        Head::Dis(_, _) => true,
+        Head::In(_, _) => false,
+        Head::Rel(_, _, _) => true,
+        Head::NoRel(_, _, _) => true,
+        Head::Same(_, _) => true,
+        Head::Differ(_, _) => true,
+    }
+}
+
+// The places in the row of x where the rule is broken.
+pub fn places(words: &[u64], at: Layout, counts: Counts, plan: Plan, x: usize) -> [u64; 8]
+    requires { ⌜ Laid at (now words) × ClosedStore (at .width) counts (now words) × (x < counts .items) ⌝ }
+    ensures { λ r. ⌜ Marks (counts .items) r (PlaceBreaks (Holds (at .width) counts (now (words .entry))) counts plan x) ⌝ }
+{
+    let head = plan.head;
+    let left = plan.left;
+    let right = plan.right;
+    if is_pair(head) {
+        return pair_row(words, at, counts, head, x);
+    }
+    let on = breaks_alone(words, at, counts, head, &left, &right, x);
+    let mut r = row::pick::empty();
+    row::pick::mark(&mut r, 0, on);
+    r
+}
+
+// The left root of a rule.
+fn left_root(head: Head) -> Root
+    ensures { λ r. ⌜ r ≡ leftRoot head ⌝ }
+{
+    match head {
+        Head::Sub(a, _) => Root::At(a),
+        Head::RoleSub(_, _) => Root::None,
+        Head::Chain(_, _, _, _, _, _) => Root::None,
+        Head::Ref(_) => Root::None,
+        Head::Irr(_) => Root::None,
+        Head::Dis(_, _) => Root::None,
+        Head::In(a, _) => Root::At(a),
+        Head::Rel(_, _, _) => Root::None,
+        Head::NoRel(_, _, _) => Root::None,
+        Head::Same(_, _) => Root::None,
+        Head::Differ(_, _) => Root::None,
+    }
+}
+
+// The right root of a rule.
+fn right_root(head: Head) -> Root
+    ensures { λ r. ⌜ r ≡ rightRoot head ⌝ }
+{
+    match head {
+        Head::Sub(_, b) => Root::At(b),
+        Head::RoleSub(_, _) => Root::None,
+        Head::Chain(_, _, _, _, _, _) => Root::None,
+        Head::Ref(_) => Root::None,
+        Head::Irr(_) => Root::None,
+        Head::Dis(_, _) => Root::None,
+        Head::In(_, _) => Root::None,
+        Head::Rel(_, _, _) => Root::None,
+        Head::NoRel(_, _, _) => Root::None,
+        Head::Same(_, _) => Root::None,
+        Head::Differ(_, _) => Root::None,
+    }
+}
+
+// The items that a root holds of; an empty row where there is none.
+fn root_row(words: &[u64], at: Layout, counts: Counts, rule: Rule, root: Root) -> [u64; 8]
+    requires { ⌜ Laid at (now words) × ClosedStore (at .width) counts (now words) ⌝ }
+    ensures { λ r. ⌜ RootRow (Holds (at .width) counts (now (words .entry))) counts (rule .nodes) root r ⌝ }
+{
+    match root {
+        Root::None => row::pick::empty(),
+        Root::At(a) => crate::holding::row_at(words, at, counts, rule, a, Rule::NODES),
+    }
+}
+
+// The plan of a rule.
+pub fn plan(words: &[u64], at: Layout, counts: Counts, rule: Rule) -> Plan
+    requires { ⌜ Laid at (now words) × ClosedStore (at .width) counts (now words) ⌝ }
+    ensures { λ r. ⌜ Planned (Holds (at .width) counts (now (words .entry))) counts rule r ⌝ }
+{
+    let head = rule.head;
+    let left = root_row(words, at, counts, rule, left_root(head));
+    let right = root_row(words, at, counts, rule, right_root(head));
+    Plan { head, left, right }
+}

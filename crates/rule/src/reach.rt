@@ -1,0 +1,154 @@
+ghost use mathlib.Core.List.{[], _∷_};
+ghost use mathlib.Core.Bool.{Bool, true, false};
+ghost use Prim.Native.Nat.{_+_, _≤_, _<_};
+ghost use lib.ListN.{length, take};
+ghost use Rattle.logic.specs.Decides.{Decides};
+ghost use Rattle.row.specs.Row.{RowHas};
+ghost use Rattle.row.specs.Pick.{room};
+ghost use Rattle.closure.specs.Layout.{ClosedStore, Holds, Laid};
+ghost use Rattle.rule.specs.Meaning.{Linked, LinkedWay};
+ghost use Rattle.rule.specs.Breaks.{Path};
+ghost use Rattle.rule.specs.Row.{Marks};
+ghost use Rattle.rule.specs.Reach.{Alone, Gathered, Reached, Together};
+use crate::RoleUse;
+use closure::Counts;
+use closure::Layout;
+use closure::Role;
+
+// The row r and the row of `width` words at `from`, together.
+fn together(words: &[u64], from: usize, width: usize, r: &[u64; 8]) -> [u64; 8]
+    requires { ⌜ (from + width ≤ length (now words)) × (width ≤ room) ⌝ }
+    ensures { λ t. ⌜ Together (now (words .entry)) from width (now (r .entry)) t ⌝ }
+{
+    let mut t = [0u64; 8];
+    let mut h = 0;
+    while h < width {
+        t[h] = r[h] | words[from + h];
+        h += 1;
+    }
+    t
+}
+
+// The row r, and the items that the role links z to, if z is in the row p.
+fn with_links(
+    words: &[u64],
+    at: Layout,
+    counts: Counts,
+    role: usize,
+    p: &[u64; 8],
+    z: usize,
+    r: &[u64; 8],
+) -> [u64; 8]
+    requires { ⌜ Laid at (now words) × ClosedStore (at .width) counts (now words) × (role < counts .roles) × (z < counts .items) × Gathered (counts .items) (LinkedWay (Holds (at .width) counts (now words)) Bool.false role) (RowHas (now p)) z (now r) ⌝ }
+    ensures { λ t. ⌜ Gathered (counts .items) (LinkedWay (Holds (at .width) counts (now (words .entry))) Bool.false role) (RowHas (now (p .entry))) (z + 1) t ⌝ }
+{
+    if row::pick::has(p, z) {
+        return together(words, crate::look::link_row(at, role, z), at.width, r);
+    }
+    *r
+}
+
+// The items that the role links an item of the row p to.
+fn forward(words: &[u64], at: Layout, counts: Counts, role: usize, p: &[u64; 8]) -> [u64; 8]
+    requires { ⌜ Laid at (now words) × ClosedStore (at .width) counts (now words) × (role < counts .roles) ⌝ }
+    ensures { λ r. ⌜ Marks (counts .items) r (Reached (LinkedWay (Holds (at .width) counts (now (words .entry))) Bool.false role) (RowHas (now (p .entry)))) ⌝ }
+{
+    let mut r = row::pick::empty();
+    let mut z = 0;
+    while z < counts.items {
+        r = with_links(words, at, counts, role, p, z, &r);
+        z += 1;
+    }
+    r
+}
+
+// Whether the role links y to an item of the row p.
+fn touches(words: &[u64], at: Layout, counts: Counts, role: usize, p: &[u64; 8], y: usize) -> bool
+    requires { ⌜ Laid at (now words) × ClosedStore (at .width) counts (now words) × (y < counts .items) ⌝ }
+    ensures { λ t. ⌜ Decides t (Reached (LinkedWay (Holds (at .width) counts (now (words .entry))) Bool.true role) (RowHas (now (p .entry))) y) ⌝ }
+{
+    let plain = RoleUse {
+        role: Role(role),
+        inverse: false,
+    };
+    let found = crate::found::found(words, at, counts, plain, p, y);
+    let b = row::pick::least(&found);
+    b < counts.items
+}
+
+// The items that the role links to an item of the row p.
+fn backward(words: &[u64], at: Layout, counts: Counts, role: usize, p: &[u64; 8]) -> [u64; 8]
+    requires { ⌜ Laid at (now words) × ClosedStore (at .width) counts (now words) ⌝ }
+    ensures { λ r. ⌜ Marks (counts .items) r (Reached (LinkedWay (Holds (at .width) counts (now (words .entry))) Bool.true role) (RowHas (now (p .entry)))) ⌝ }
+{
+    let mut r = row::pick::empty();
+    let mut y = 0;
+    while y < counts.items {
+        let on = touches(words, at, counts, role, p, y);
+        row::pick::mark(&mut r, y, on);
+        y += 1;
+    }
+    r
+}
+
+// The items that the role, or its inverse, links an item of the row p to.
+pub fn step_row(words: &[u64], at: Layout, counts: Counts, u: RoleUse, p: &[u64; 8]) -> [u64; 8]
+    requires { ⌜ Laid at (now words) × ClosedStore (at .width) counts (now words) ⌝ }
+    ensures { λ r. ⌜ Marks (counts .items) r (Reached (Linked (Holds (at .width) counts (now (words .entry))) u) (RowHas (now (p .entry)))) ⌝ }
+{
+    let inverse = u.inverse;
+    let role = u.role.0;
+    if inverse {
+        return backward(words, at, counts, role, p);
+    }
+    if counts.roles <= role {
+        return row::pick::empty();
+    }
+    forward(words, at, counts, role, p)
+}
+
+// The row of x alone; a number past the row's bits is in none.
+pub fn alone(x: usize) -> [u64; 8]
+    ensures { λ r. ⌜ Alone x r ⌝ }
+{
+    if 64 * 8 <= x {
+        return row::pick::empty();
+    }
+    let mut r = row::pick::empty();
+    row::pick::mark(&mut r, x, true);
+    r
+}
+
+// The ends of the paths from x of the first k of the roles.
+pub fn path_row(
+    words: &[u64],
+    at: Layout,
+    counts: Counts,
+    k: usize,
+    a: RoleUse,
+    b: RoleUse,
+    c: RoleUse,
+    d: RoleUse,
+    x: usize,
+) -> [u64; 8]
+    requires { ⌜ Laid at (now words) × ClosedStore (at .width) counts (now words) × (x < counts .items) ⌝ }
+    ensures { λ r. ⌜ Marks (counts .items) r (Path (Holds (at .width) counts (now (words .entry))) counts (take k (a ∷ b ∷ c ∷ d ∷ [])) x) ⌝ }
+{
+    let from = alone(x);
+    if k == 0 {
+        return from;
+    }
+    let first = step_row(words, at, counts, a, &from);
+    if k == 1 {
+        return first;
+    }
+    let second = step_row(words, at, counts, b, &first);
+    if k == 2 {
+        return second;
+    }
+    let third = step_row(words, at, counts, c, &second);
+    if k == 3 {
+        return third;
+    }
+    step_row(words, at, counts, d, &third)
+}
