@@ -14,5 +14,4 @@ pub mod Reach
 pub mod Plan
 pub mod Listed
 pub mod Cursor
-pub mod Exist
 pub mod Search
