@@ -5,6 +5,7 @@ pub mod Meaning
 pub mod Breaks
 pub mod Findings
 pub mod Promise
+pub mod Demand2
 pub mod Row
 pub mod Reach
 pub mod Plan

@@ -15,3 +15,4 @@ pub mod Plan
 pub mod Listed
 pub mod Cursor
 pub mod Search
+pub mod Demand2
