@@ -23,6 +23,7 @@
  */
 #define _POSIX_C_SOURCE 199309L
 
+#include "commands.h"
 #include "rule_trial.h"
 #include "saltreeve.h"
 
@@ -35,14 +36,9 @@
 #include <unistd.h>
 
 enum {
-    GUARD_WORDS = 64,    /* kept before and after the words lent */
     MOST_WORDS = 65536,  /* the longest list that can be lent */
-    NAME_BYTES = 32,
-    PLACE_BYTES = 256,
-    CALL_SECONDS = 20
+    PLACE_BYTES = 256
 };
-
-static const uint64_t GUARD = 0xA5C3A5C3A5C3A5C3;
 
 /* Words lent: guard words around them, and what they should be after a call. */
 struct lent {
@@ -62,49 +58,6 @@ struct run {
 
 /* Where the test is, as text for the case that it ends there. */
 static char place[PLACE_BYTES];
-
-/* Ends the program because the commands make no sense. */
-static void stop(const char *why)
-{
-    printf("commands: %s\n", why);
-    exit(2);
-}
-
-/* Reads the next word of the commands; 0 if there is none. */
-static int read_word(char word[NAME_BYTES])
-{
-    int c = getchar();
-    size_t n = 0;
-    while (c == ' ' || c == '\n')
-        c = getchar();
-    for (; c != EOF && c != ' ' && c != '\n'; c = getchar()) {
-        if (n == NAME_BYTES - 1)
-            stop("a word is too long");
-        word[n++] = (char)c;
-    }
-    word[n] = 0;
-    return n > 0;
-}
-
-/* Reads a number. */
-static uint64_t read_number(void)
-{
-    char word[NAME_BYTES], *end = word;
-    uint64_t number = read_word(word) ? strtoull(word, &end, 10) : 0;
-    if (end == word || *end != 0)
-        stop("a number is missing");
-    return number;
-}
-
-/* Reads a result, which may be below 0. */
-static int64_t read_result(void)
-{
-    char word[NAME_BYTES], *end = word;
-    int64_t number = read_word(word) ? strtoll(word, &end, 10) : 0;
-    if (end == word || *end != 0)
-        stop("a result is missing");
-    return number;
-}
 
 /* Room for so many words. */
 static uint64_t *allocate(size_t words)

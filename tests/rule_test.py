@@ -7,40 +7,26 @@ DRIVER is tests/rule_driver.c linked with the test library. The self-test needs 
 compiler and no library: it tries the test itself on a stand-in, sound and faulty.
 """
 
-import argparse
-import random
 import re
-import subprocess
 import sys
-import tempfile
 
 sys.dont_write_bytecode = True  # keeps the folder of the tests free of build products
 
+import harness
 import oracle
 import oracle_rules
 import rule_cases
 import rule_selftest
 
-DEFAULT_SEED = 17
 DEFAULT_RULES = 3200
 ROUNDS = 6
 CELLS_SHOWN = 60
 
 
-# Sends the whole test to the driver while it is made; gives what was sent,
-# the driver's exit code and the lines that it printed.
+# Sends the whole test to the driver.
 def run(driver, seed, rules):
-    with tempfile.TemporaryFile("w+") as printed:
-        process = subprocess.Popen([driver], stdin=subprocess.PIPE, stdout=printed, text=True)
-        commands = rule_cases.Commands(process.stdin.write)
-        try:
-            rule_cases.write_all(commands, seed, rules, ROUNDS)
-            process.stdin.close()
-        except BrokenPipeError:
-            pass
-        code = process.wait()
-        printed.seek(0)
-        return commands, code, printed.read().splitlines()
+    return harness.run(driver, rule_cases.Commands,
+                       lambda commands: rule_cases.write_all(commands, seed, rules, ROUNDS))
 
 
 # A field of a rule as text.
@@ -98,9 +84,8 @@ def call_lines(call):
 
 # Prints where the driver stopped, what it said, and the call.
 def report_difference(commands, seed, code, lines):
-    start = next((at for at, line in enumerate(lines) if line.startswith("difference")), -1)
     print(f"rules: seed {seed}: the driver ended with {code}; it said last:")
-    shown = lines[start:]
+    shown = harness.last_said(lines)
     place = re.search(r"which is call (\d+) of all", "".join(shown[:1]))
     if place:
         shown += call_lines(commands.calls[int(place.group(1)) - 1])
@@ -116,27 +101,13 @@ def report_agreement(commands, seed):
           f"by 4: {results[-4]}, for their length: {results[-99]}), seed {seed}: all agree")
 
 
-# Reads the command line.
-def arguments():
-    parser = argparse.ArgumentParser(description="Tests rules by number against the oracle.")
-    parser.add_argument("driver", nargs="?", help="tests/rule_driver.c linked with the test library")
-    parser.add_argument("--seed", default=DEFAULT_SEED, help="a number, or: random")
-    parser.add_argument("--rules", type=int, default=DEFAULT_RULES, help="how many rules are drawn at random")
-    parser.add_argument("--selftest", action="store_true", help="try the test itself on faulty stand-ins")
-    chosen = parser.parse_args()
-    if not chosen.selftest and chosen.driver is None:
-        parser.error("the path of the driver is missing")
-    return chosen
-
-
 # Runs the test or the self-test; 0 if all is well.
 def main():
-    chosen = arguments()
-    seed = random.randrange(10**6) if chosen.seed == "random" else int(chosen.seed)
-    print(f"seed {seed}", flush=True)
+    chosen = harness.arguments("Tests rules by number against the oracle.", "rules", DEFAULT_RULES)
+    seed = chosen.seed
     if chosen.selftest:
         return rule_selftest.run(seed)
-    commands, code, lines = run(chosen.driver, seed, chosen.rules)
+    commands, code, lines = run(chosen.driver, seed, chosen.size)
     if code == 0 and lines[-1:] == [f"done {len(commands.calls)}"]:
         report_agreement(commands, seed)
         return 0

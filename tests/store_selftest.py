@@ -5,15 +5,8 @@ the same commands to all of them, and asks that the sound one passes and that ea
 faulty one is found out.
 """
 
-import os
-import subprocess
-from pathlib import Path
-
+import harness
 import store_cases
-
-ROOT = Path(__file__).resolve().parent.parent
-BUILD = ROOT / "target" / "tests"
-COMPILER = [os.environ.get("CC", "gcc"), "-O1", "-Wall", "-Wextra", "-Werror", f"-I{ROOT / 'include'}"]
 
 SEQUENCES = 150
 ROUNDS = 3
@@ -52,55 +45,18 @@ def short_test(seed):
     written = []
     commands = store_cases.Commands(written.append)
     store_cases.write_all(commands, seed, SEQUENCES, ROUNDS)
-    return "".join(written).encode(), commands.calls
-
-
-# Compiles one file.
-def compile_file(name, result, options):
-    subprocess.run([*COMPILER, *options, "-c", str(ROOT / "tests" / name), "-o", str(BUILD / result)], check=True)
+    return "".join(written), commands.calls
 
 
 # Builds the driver with the stand-in, one fault planted or none.
 def build(options):
-    compile_file("reference_store.c", "selftest_store.o", options)
-    program = BUILD / "selftest_driver"
-    objects = [str(BUILD / "selftest_driver.o"), str(BUILD / "selftest_store.o")]
-    subprocess.run([COMPILER[0], *objects, "-o", str(program)], check=True)
-    return program
-
-
-# Gives commands to the driver: its exit code, and the last line that it printed.
-def outcome(program, commands):
-    done = subprocess.run([str(program)], input=commands, stdout=subprocess.PIPE)
-    return done.returncode, b"".join(done.stdout.splitlines()[-1:]).decode()
-
-
-# What the test of the sound stand-in gets wrong, as lines to print.
-def wrong_about_sound(commands, calls):
-    program = build([])
-    wrong = []
-    if outcome(program, commands) != (0, f"done {calls}"):
-        wrong.append("the sound stand-in does not pass")
-    if outcome(program, (FRESH_PAIR + MERGED_PAIR + "keep compare").encode()) != (0, "done 2"):
-        wrong.append("the sound stand-in does not pass the commands that are to be spoiled")
-    return wrong + [f"not found out: {spoiled}" for spoiled in SPOILED if outcome(program, spoiled.encode())[0] != 1]
-
-
-# Which faulty stand-ins the test misses, as lines to print.
-def missed_faults(commands, calls):
-    return [f"a stand-in built with {option} passes" for option in planted()
-            if outcome(build([option]), commands) == (0, f"done {calls}")]
+    harness.compile_file("reference_store.c", "selftest_store.o", options)
+    return harness.link(("selftest_driver.o", "selftest_store.o"), "selftest_driver")
 
 
 # Tries the sound stand-in and all faulty ones; 0 if the test judges each rightly.
 def run(seed):
-    BUILD.mkdir(parents=True, exist_ok=True)
-    commands, calls = short_test(seed)
-    compile_file("store_driver.c", "selftest_driver.o", [])
-    wrong = wrong_about_sound(commands, calls) + missed_faults(commands, calls)
-    for line in wrong:
-        print(f"store self-test: seed {seed}: {line}")
-    if not wrong:
-        print(f"store self-test: {calls} calls, the sound stand-in passes, {len(planted())} faulty ones "
-              f"and {len(SPOILED)} spoiled lists of commands are all found out, seed {seed}")
-    return 1 if wrong else 0
+    harness.BUILD.mkdir(parents=True, exist_ok=True)
+    harness.compile_file("store_driver.c", "selftest_driver.o")
+    right = FRESH_PAIR + MERGED_PAIR + "keep compare"
+    return harness.selftest("store", seed, short_test(seed), build, planted(), right, SPOILED)

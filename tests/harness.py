@@ -1,0 +1,92 @@
+"""What the tests of the drivers share: the command line, sending commands, and the self-test on stand-ins."""
+
+import argparse
+import os
+import random
+import subprocess
+import tempfile
+from pathlib import Path
+
+ROOT = Path(__file__).resolve().parent.parent
+BUILD = ROOT / "target" / "tests"
+COMPILER = [os.environ.get("CC", "gcc"), "-std=c99", "-O1", "-Wall", "-Wextra", "-Werror", f"-I{ROOT / 'include'}"]
+
+DEFAULT_SEED = 17
+
+
+# Reads the command line; `size` names the option for how much is drawn at random.
+def arguments(description, size, default):
+    parser = argparse.ArgumentParser(description=description)
+    parser.add_argument("driver", nargs="?", help="the driver, linked with the library")
+    parser.add_argument("--seed", default=DEFAULT_SEED, help="a number, or: random")
+    parser.add_argument(f"--{size}", dest="size", type=int, default=default, help=f"how many {size} are drawn at random")
+    parser.add_argument("--selftest", action="store_true", help="try the test itself on faulty stand-ins")
+    chosen = parser.parse_args()
+    if not chosen.selftest and chosen.driver is None:
+        parser.error("the path of the driver is missing")
+    chosen.seed = random.randrange(10**6) if chosen.seed == "random" else int(chosen.seed)
+    print(f"seed {chosen.seed}", flush=True)
+    return chosen
+
+
+# Sends commands to the driver while they are made; gives the commands, the driver's
+# exit code and the lines that it printed.
+def run(driver, make, fill):
+    with tempfile.TemporaryFile("w+") as printed:
+        process = subprocess.Popen([driver], stdin=subprocess.PIPE, stdout=printed, text=True)
+        commands = make(process.stdin.write)
+        try:
+            fill(commands)
+            process.stdin.close()
+        except BrokenPipeError:
+            pass
+        code = process.wait()
+        printed.seek(0)
+        return commands, code, printed.read().splitlines()
+
+
+# The lines that a driver printed about the first difference, or the last line.
+def last_said(lines):
+    return lines[next((at for at, line in enumerate(lines) if line.startswith("difference")), -1):]
+
+
+# Compiles one file of the tests.
+def compile_file(name, result, options=()):
+    subprocess.run([*COMPILER, *options, "-c", str(ROOT / "tests" / name), "-o", str(BUILD / result)], check=True)
+
+
+# Links a program.
+def link(objects, result):
+    subprocess.run([COMPILER[0], *(str(BUILD / name) for name in objects), "-o", str(BUILD / result)], check=True)
+    return BUILD / result
+
+
+# Gives commands to a driver: its exit code, and the last line that it printed.
+def outcome(program, commands):
+    done = subprocess.run([str(program)], input=commands.encode(), stdout=subprocess.PIPE)
+    return done.returncode, b"".join(done.stdout.splitlines()[-1:]).decode()
+
+
+# What the test of the sound stand-in gets wrong, as lines to print.
+def wrong_about_sound(program, commands, calls, right, spoiled):
+    wrong = []
+    if outcome(program, commands) != (0, f"done {calls}"):
+        wrong.append("the sound stand-in does not pass")
+    if outcome(program, right) != (0, "done 2"):
+        wrong.append("the sound stand-in does not pass the commands that are to be spoiled")
+    return wrong + [f"not found out: {each}" for each in spoiled if outcome(program, each)[0] != 1]
+
+
+# Tries the sound stand-in and all faulty ones, one for each option that plants a fault; 0 if the test judges each
+# rightly. `right` are commands of two calls that the sound one passes, `spoiled` some that it does not.
+def selftest(name, seed, test, build, options, right, spoiled):
+    commands, calls = test
+    wrong = wrong_about_sound(build([]), commands, calls, right, spoiled)
+    wrong += [f"a stand-in built with {option} passes" for option in options
+              if outcome(build([option]), commands) == (0, f"done {calls}")]
+    for line in wrong:
+        print(f"{name} self-test: seed {seed}: {line}")
+    if not wrong:
+        print(f"{name} self-test: {calls} calls, the sound stand-in passes, {len(options)} faulty ones "
+              f"and {len(spoiled)} spoiled lists of commands are all found out, seed {seed}")
+    return 1 if wrong else 0
