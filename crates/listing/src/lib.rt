@@ -12,7 +12,7 @@ use rule::Search;
 use rule::Total;
 
 // Writes the first n findings from the search on into the list.
-pub fn write(list: &mut [Finding], n: usize, words: &[u64], first: Search)
+fn write(list: &mut [Finding], n: usize, words: &[u64], first: Search)
     requires { ⌜ (n ≤ length (now list)) × (0 < n → Ready (now words) first) ⌝ }
     ensures { λ _. ⌜ Written (now (words .entry)) first n (now (list .entry)) (now (list .exit)) ⌝ }
 {
