@@ -1,0 +1,25 @@
+-- `compile::disjoint` meets its contract: two role atoms. Assumes nothing.
+use mathlib.Core.List.{[]}
+use borrow.Author.Needs.{needs}
+use Rattle.query.specs.laws.Filled.{dis-room, dis-rest, dis-filled}
+use Rattle.query.proofs.compile.disjoint.Statement.{statement}
+use Rattle.query.proofs.compile.disjoint.Tie as tie
+
+start-requires : tie.Need-start-requires
+start-requires c κs = search needs
+
+link-requires : tie.Need-link-requires
+link-requires c κs = dis-room _ [] _ _ _ (c .before .start .ensures) (c .before .before .before .pre)
+
+link-requires-2 : tie.Need-link-requires-2
+link-requires-2 c κs = dis-rest _ _ [] _ _ _ _ (c .before .before .before .before .before .start .ensures) (c .before .before .before .before .before .before .before .pre) (c .before .before .before .link .ensures)
+
+same-length : tie.Need-same-length
+same-length c = search needs
+
+returns : tie.Need-returns
+returns c = dis-filled _ _ _ [] _ _ _ _ _ (c .before .before .before .before .before .before .before .before .start .ensures) (c .before .before .before .before .before .before .link .ensures) (c .before .before .link2 .ensures)
+
+pub disjoint-spec : {M : Type 1} → statement M
+disjoint-spec =
+    tie.close (tie.spec start-requires link-requires link-requires-2 same-length returns)

@@ -1,0 +1,29 @@
+-- `compile::present` meets its contract: a role atom of two items. Assumes nothing.
+use mathlib.Core.List.{[]}
+use borrow.Author.Needs.{needs}
+use Rattle.query.specs.laws.Filled.{no-rel-room, no-rel-filled}
+use Rattle.query.proofs.compile.present.Statement.{statement}
+use Rattle.query.proofs.compile.present.Tie as tie
+
+term-requires : tie.Need-term-requires
+term-requires c κs = search needs
+
+term-requires-2 : tie.Need-term-requires-2
+term-requires-2 c κs = search needs
+
+start-requires : tie.Need-start-requires
+start-requires c κs = search needs
+
+link-requires : tie.Need-link-requires
+link-requires c κs = no-rel-room _ [] _ _ _ _ (c .before .start .ensures) (c .before .before .before .before .before .pre)
+
+same-length : tie.Need-same-length
+same-length c = search needs
+
+returns : tie.Need-returns
+returns c = no-rel-filled _ _ [] _ _ _ _ _ _ _ (c .before .before .before .before .start .ensures) (c .before .before .before .before .before .before .term .ensures) (c .before .before .before .before .before .term2 .ensures) (c .before .before .link .ensures)
+
+pub present-spec : {M : Type 1} → statement M
+present-spec =
+    tie.close
+    (tie.spec term-requires term-requires-2 start-requires link-requires same-length returns)

@@ -1,0 +1,25 @@
+-- `compile::role_sub` meets its contract: one role atom, then the other inside a not. Assumes nothing.
+use mathlib.Core.List.{[]}
+use borrow.Author.Needs.{needs}
+use Rattle.query.specs.laws.Filled.{role-sub-room, role-sub-rest, role-sub-filled}
+use Rattle.query.proofs.compile.role_sub.Statement.{statement}
+use Rattle.query.proofs.compile.role_sub.Tie as tie
+
+start-requires : tie.Need-start-requires
+start-requires c κs = search needs
+
+link-requires : tie.Need-link-requires
+link-requires c κs = role-sub-room _ [] _ _ _ (c .before .start .ensures) (c .before .before .before .pre)
+
+unlinked-requires : tie.Need-unlinked-requires
+unlinked-requires c κs = role-sub-rest _ _ [] _ _ _ _ (c .before .before .before .before .before .start .ensures) (c .before .before .before .before .before .before .before .pre) (c .before .before .before .link .ensures)
+
+same-length : tie.Need-same-length
+same-length c = search needs
+
+returns : tie.Need-returns
+returns c = role-sub-filled _ _ _ [] _ _ _ _ _ (c .before .before .before .before .before .before .before .before .start .ensures) (c .before .before .before .before .before .before .link .ensures) (c .before .before .unlinked .ensures)
+
+pub role-sub-spec : {M : Type 1} → statement M
+role-sub-spec =
+    tie.close (tie.spec start-requires link-requires unlinked-requires same-length returns)
