@@ -1,0 +1,1 @@
+// The published reading: definitions and theorems only. It has no function.
