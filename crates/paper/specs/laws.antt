@@ -2,4 +2,5 @@
 pub mod Sound
 pub mod Leader
 pub mod Canonical
+pub mod Told
 pub mod TheoremA
