@@ -4,3 +4,4 @@ pub mod Leader
 pub mod Canonical
 pub mod Told
 pub mod TheoremA
+pub mod TheoremB

@@ -1,0 +1,82 @@
+-- Theorem B: in the models with minimal equality items have one value exactly if they follow to be the same, and there is such a model. Assumes nothing.
+use mathlib.Core.Path.{_≡_, ap, ap₂, fst-path}
+use mathlib.Core.Logic.{_⊎_, _↔_, inl, inr}
+use mathlib.Core.Bool.{true, false}
+use mathlib.Core.List.{List}
+use Prim.Native.Nat.{ℕ}
+use Rattle.closure.specs.declared.Counts.{Counts}
+use Rattle.closure.specs.declared.Statement.{Statement}
+use Rattle.closure.specs.Cell.{Cell, DeclaredItem, Follows, Within}
+use Rattle.closure.specs.Cell.Cell.{Same, Under, RoleUnder, In, Link}
+use Rattle.closure.specs.Cell.Follows.{given}
+use Rattle.closure.specs.Lines.{Stated}
+use Rattle.paper.specs.Interpretation.{Interpretation, Condition, Satisfies, Model, Less, Minimal}
+use Rattle.paper.specs.laws.Sound.{follows-satisfied}
+use Rattle.paper.specs.laws.Canonical.{Settled, canonical, canonical-exact, canonical-model, lead, settled-obeys}
+use Rattle.paper.specs.laws.Leader.{leader-joins, same-leader}
+use Rattle.paper.specs.laws.Told.{settled-lines}
+
+module _ {n : Counts} {G C : Cell → Type 0} (k : Settled n G C) where
+  -- ---- a model taken apart: each element once for each article, so that only what follows to be the same stays equal
+
+  apart : Interpretation → Interpretation
+  apart I = record { domain = I .domain × ℕ; concept = λ a d. I .concept a (d .0); role = λ r d e. I .role r (d .0) (e .0); item = λ a. (I .item a, lead k a) }
+
+  apart-condition : (I : Interpretation) (c : Cell) → C c → Condition I c → Condition (apart I) c
+  unfolding apart
+  apart-condition I (Same a b) x h = ap₂ {C = I .domain × ℕ} (λ d m. (d, m)) h (same-leader (settled-obeys k) (k .tell) x)
+  apart-condition I (Under a b) x h = λ d. h (d .0)
+  apart-condition I (RoleUnder r false s) x h = λ d e. h (d .0) (e .0)
+  apart-condition I (RoleUnder r true s) x h = λ d e. h (d .0) (e .0)
+  apart-condition I (In a b) x h = h
+  apart-condition I (Link r a b) x h = h
+
+  apart-model : {I : Interpretation} → Model n G I → Model n G (apart I)
+  apart-model {I} m = record { satisfies = λ c g. record { within = k .stated c g; condition = apart-condition I c (k .whole c (given g)) (m .satisfies c g .condition) } }
+
+  apart-less : {I : Interpretation} {a b : ℕ} → ¬ (C (Same a b)) → Satisfies n I (Same a b) → Less n (apart I) I
+  unfolding apart
+  apart-less {I} {a} {b} no-same s = record {
+    concepts = λ x y. (λ h. record { within = h .within; condition = h .condition }, λ h. record { within = h .within; condition = h .condition });
+    roles = λ r x y. (λ h. record { within = h .within; condition = h .condition }, λ h. record { within = h .within; condition = h .condition });
+    some = λ x y h. record { within = h .within; condition = fst-path (h .condition) };
+    not-all = λ f. no-same (leader-joins (settled-obeys k) (k .tell) (s .within .0) (s .within .1) (ap (λ (d : I .domain × ℕ). d .1) (f a b s .condition)));
+  }
+
+  -- ---- the theorem
+
+  -- what is equal in a model with minimal equality follows to be the same
+  minimal-same : {I : Interpretation} {a b : ℕ} → Minimal n G I → Satisfies n I (Same a b) → C (Same a b)
+  minimal-same {I} {a} {b} m s = go (k .tell (Same a b))
+    where
+      go : Dec (C (Same a b)) → C (Same a b)
+      go (yes x) = x
+      go (no x) = absurd (m .least (apart I) (apart-model (m .model)) (apart-less x s))
+
+  -- two items have one value exactly if they are the same
+  pub minimal-value : {I : Interpretation} {a b : ℕ} → Minimal n G I → DeclaredItem n a → DeclaredItem n b → (I .item a ≡ I .item b) ↔ C (Same a b)
+  minimal-value {a = a} {b = b} m h l = (λ e. minimal-same m (record { within = (h, l); condition = e }), λ x. follows-satisfied (m .model) (k .sound (Same a b) x) .condition)
+
+  -- the model of the articles has minimal equality
+  pub canonical-minimal : Minimal n G (canonical k)
+  canonical-minimal = record {
+    model = canonical-model k;
+    least = λ J m l. l .not-all (λ a b s. follows-satisfied m (k .sound (Same a b) (canonical-exact k (Same a b) .1 s)));
+  }
+
+  -- 000, Lemma 3: of two items, either they are equal in all models with minimal equality, or in none. So 000's Example 11 cannot arise.
+  pub equal-or-not : {a b : ℕ} → DeclaredItem n a → DeclaredItem n b
+      → ((I : Interpretation) → Minimal n G I → I .item a ≡ I .item b) ⊎ ((I : Interpretation) → Minimal n G I → ¬ (I .item a ≡ I .item b))
+  equal-or-not {a} {b} h l = go (k .tell (Same a b))
+    where
+      go : Dec (C (Same a b)) → ((I : Interpretation) → Minimal n G I → I .item a ≡ I .item b) ⊎ ((I : Interpretation) → Minimal n G I → ¬ (I .item a ≡ I .item b))
+      go (yes x) = inl (λ I m. minimal-value m h l .1 x)
+      go (no x) = inr (λ I m e. x (minimal-value m h l .0 e))
+
+-- for every list of statements that are made of declared names
+pub theorem-b-same : {n : Counts} {lines : List Statement} → ((c : Cell) → Stated lines c → Within n c) → {I : Interpretation} {a b : ℕ} → Minimal n (Stated lines) I
+    → DeclaredItem n a → DeclaredItem n b → (I .item a ≡ I .item b) ↔ Follows n (Stated lines) (Same a b)
+theorem-b-same w m h l = minimal-value (settled-lines w) m h l
+
+pub theorem-b-exists : {n : Counts} {lines : List Statement} → ((c : Cell) → Stated lines c → Within n c) → (I : Interpretation) × Minimal n (Stated lines) I
+theorem-b-exists w = (canonical (settled-lines w), canonical-minimal (settled-lines w))
