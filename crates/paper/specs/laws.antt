@@ -5,3 +5,4 @@ pub mod Canonical
 pub mod Told
 pub mod TheoremA
 pub mod TheoremB
+pub mod Values

@@ -4,7 +4,7 @@ use mathlib.Core.Logic.{_↔_}
 use mathlib.Core.Bool.{Bool, true, false}
 use Prim.Native.Nat.{ℕ}
 use Rattle.closure.specs.declared.Counts.{Counts}
-use Rattle.closure.specs.Cell.{Cell, Follows, Obeys, Within}
+use Rattle.closure.specs.Cell.{Cell, DeclaredItem, Follows, Obeys, Within}
 use Rattle.closure.specs.Cell.Cell.{Same, Under, RoleUnder, In, Link}
 use Rattle.closure.specs.Cell.Follows.{given}
 use Rattle.closure.specs.laws.Least.{follows-obeys, least, obeys-iff, within-obeys}
@@ -95,16 +95,24 @@ module _ {n : Counts} {G C : Cell → Type 0} (k : Settled n G C) where
   canonical-has (Link r a b) x =
       linked (settled-obeys .link-same (leader-same settled-obeys (k .tell) (settled-within x .1)) (leader-same settled-obeys (k .tell) (settled-within x .2)) x)
 
-  -- and no other
+  -- and no other: of items in concepts and links, whatever the concept or the role
+  pub canonical-in : {a b : ℕ} → DeclaredItem n a → canonical .concept b (canonical .item a) → C (In a b)
+  unfolding canonical
+  canonical-in w x = settled-obeys .in-same (settled-obeys .same-sym (leader-same settled-obeys (k .tell) w)) (named-in x)
+
+  pub canonical-link : {r a b : ℕ} → DeclaredItem n a → DeclaredItem n b → canonical .role r (canonical .item a) (canonical .item b) → C (Link r a b)
+  unfolding canonical
+  canonical-link w v x =
+      settled-obeys .link-same (settled-obeys .same-sym (leader-same settled-obeys (k .tell) w)) (settled-obeys .same-sym (leader-same settled-obeys (k .tell) v)) (joined-link x)
+
   canonical-only : (c : Cell) → Within n c → Condition canonical c → C c
   unfolding canonical
   canonical-only (Same a b) w x = leader-joins settled-obeys (k .tell) (w .0) (w .1) (article-same x)
   canonical-only (Under a b) w x = nameless-under (x (member a) (nameless (settled-obeys .under-refl (w .0))))
   canonical-only (RoleUnder r false s) w x = joined-forth (x (start r) (finish r) (forth (settled-obeys .role-refl (w .0))))
   canonical-only (RoleUnder r true s) w x = joined-back (x (start r) (finish r) (forth (settled-obeys .role-refl (w .0))))
-  canonical-only (In a b) w x = settled-obeys .in-same (settled-obeys .same-sym (leader-same settled-obeys (k .tell) (w .0))) (named-in x)
-  canonical-only (Link r a b) w x =
-      settled-obeys .link-same (settled-obeys .same-sym (leader-same settled-obeys (k .tell) (w .1))) (settled-obeys .same-sym (leader-same settled-obeys (k .tell) (w .2))) (joined-link x)
+  canonical-only (In a b) w x = canonical-in (w .0) x
+  canonical-only (Link r a b) w x = canonical-link (w .1) (w .2) x
 
   -- the canonical model satisfies exactly what follows
   pub canonical-exact : (c : Cell) → C c ↔ Satisfies n canonical c
