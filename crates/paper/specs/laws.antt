@@ -6,3 +6,5 @@ pub mod Told
 pub mod TheoremA
 pub mod TheoremB
 pub mod Values
+pub mod Names
+pub mod TheoremC
