@@ -2,4 +2,5 @@
 pub mod Interpretation
 pub mod Known
 pub mod Satisfied
+pub mod Published
 pub mod laws

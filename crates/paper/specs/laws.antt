@@ -8,3 +8,4 @@ pub mod TheoremB
 pub mod Values
 pub mod Names
 pub mod TheoremC
+pub mod Published

@@ -2,19 +2,15 @@
 use mathlib.Core.Path.{_≡_, ap, ap₂, fst-path}
 use mathlib.Core.Logic.{_⊎_, _↔_, inl, inr}
 use mathlib.Core.Bool.{true, false}
-use mathlib.Core.List.{List}
 use Prim.Native.Nat.{ℕ}
 use Rattle.closure.specs.declared.Counts.{Counts}
-use Rattle.closure.specs.declared.Statement.{Statement}
-use Rattle.closure.specs.Cell.{Cell, DeclaredItem, Follows, Within}
+use Rattle.closure.specs.Cell.{Cell, DeclaredItem}
 use Rattle.closure.specs.Cell.Cell.{Same, Under, RoleUnder, In, Link}
 use Rattle.closure.specs.Cell.Follows.{given}
-use Rattle.closure.specs.Lines.{Stated}
 use Rattle.paper.specs.Interpretation.{Interpretation, Condition, Satisfies, Model, Less, Minimal}
 use Rattle.paper.specs.laws.Sound.{follows-satisfied}
 use Rattle.paper.specs.laws.Canonical.{Settled, canonical, canonical-exact, canonical-model, lead, settled-obeys}
 use Rattle.paper.specs.laws.Leader.{leader-joins, same-leader}
-use Rattle.paper.specs.laws.Told.{settled-lines}
 
 module _ {n : Counts} {G C : Cell → Type 0} (k : Settled n G C) where
   -- ---- a model taken apart: each element once for each article, so that only what follows to be the same stays equal
@@ -72,11 +68,3 @@ module _ {n : Counts} {G C : Cell → Type 0} (k : Settled n G C) where
       go : Dec (C (Same a b)) → ((I : Interpretation) → Minimal n G I → I .item a ≡ I .item b) ⊎ ((I : Interpretation) → Minimal n G I → ¬ (I .item a ≡ I .item b))
       go (yes x) = inl (λ I m. minimal-value m h l .1 x)
       go (no x) = inr (λ I m e. x (minimal-value m h l .0 e))
-
--- for every list of statements that are made of declared names
-pub theorem-b-same : {n : Counts} {lines : List Statement} → ((c : Cell) → Stated lines c → Within n c) → {I : Interpretation} {a b : ℕ} → Minimal n (Stated lines) I
-    → DeclaredItem n a → DeclaredItem n b → (I .item a ≡ I .item b) ↔ Follows n (Stated lines) (Same a b)
-theorem-b-same w m h l = minimal-value (settled-lines w) m h l
-
-pub theorem-b-exists : {n : Counts} {lines : List Statement} → ((c : Cell) → Stated lines c → Within n c) → (I : Interpretation) × Minimal n (Stated lines) I
-theorem-b-exists w = (canonical (settled-lines w), canonical-minimal (settled-lines w))

@@ -1,0 +1,72 @@
+-- The findings are the published reading. Assumes nothing.
+use mathlib.Core.Path.{_≡_, ap}
+use mathlib.Core.Logic.{_↔_, Iff·trans}
+use mathlib.Core.List.{List, [], _∷_}
+use Prim.Native.Nat.{ℕ}
+use native.Mathlib.Omega.{arith}
+use lib.ListN.{length}
+use Rattle.logic.specs.Number.{One}
+use Rattle.logic.specs.Number.One.{first}
+use Rattle.logic.specs.laws.Number.{one-none}
+use Rattle.closure.specs.declared.Counts.{Counts}
+use Rattle.closure.specs.declared.Statement.{Statement}
+use Rattle.closure.specs.Cell.{Cell, Within}
+use Rattle.closure.specs.Layout.{Holds}
+use Rattle.closure.specs.Lines.{Stated}
+use Rattle.closure.specs.Promise.{Keeps}
+use Rattle.rule.specs.declared.Finding.{Finding}
+use Rattle.rule.specs.declared.Rule.{Rule}
+use Rattle.rule.specs.declared.Second.{Second}
+use Rattle.rule.specs.declared.Total.the-variants.{Count}
+use Rattle.rule.specs.Breaks.{Breaks}
+use Rattle.rule.specs.Findings.{Findings, findingOf}
+use Rattle.rule.specs.Promise.{Judged, Totals}
+use Rattle.rule.specs.Promise.Totals.{counted}
+use Rattle.paper.specs.Published.{Published, PublishedStore}
+use Rattle.paper.specs.Satisfied.{ICSatisfies}
+use Rattle.paper.specs.laws.Canonical.{canonical}
+use Rattle.paper.specs.laws.TheoremA.{theorem-a}
+use Rattle.paper.specs.laws.TheoremB.{canonical-minimal, minimal-value}
+use Rattle.paper.specs.laws.TheoremC.{theorem-c, theorem-c-finding}
+use Rattle.paper.specs.laws.Told.{settled-lines, settled-store}
+
+-- for every list of statements that are made of declared names
+pub published : {n : Counts} {lines : List Statement} → ((c : Cell) → Stated lines c → Within n c) → Published n lines
+published w =
+    let k = settled-lines w in
+    record {
+      follows = theorem-a k;
+      equal = minimal-value k;
+      exists = (canonical k, canonical-minimal k);
+      satisfied = theorem-c k;
+      broken = λ f g m. theorem-c-finding k f g m;
+    }
+
+-- the list of findings is empty exactly if nothing breaks the rule
+no-finding : {C : Cell → Type 0} {n : Counts} {k : ℕ} {u : Rule} {fs : List Finding} → Findings C n k u fs → ((x : ℕ) (y : Second) → ¬ (Breaks C n u x y)) ↔ (length fs ≡ 0)
+no-finding {C} {n} {k} {u} {fs} f = (λ none. empty fs (f .sound) none, λ e x y b. filled fs e (f .whole x y b))
+  where
+    empty : (gs : List Finding) → ((g : Finding) → One g gs → (g .rule ≡ k) × Breaks C n u (g .item .0) (g .second)) → ((x : ℕ) (y : Second) → ¬ (Breaks C n u x y)) → length gs ≡ 0
+    empty [] s none = omega arith
+    empty (g ∷ gs) s none = absurd (none (g .item .0) (g .second) (s g first .1))
+
+    filled : {g : Finding} (gs : List Finding) → length gs ≡ 0 → ¬ (One g gs)
+    filled [] e o = one-none o
+    filled (h ∷ gs) e o = omega arith
+
+module _ {W : ℕ} {n : Counts} {Given : Cell → Type 0} {s : List ℕ} (k : Keeps W n Given s) where
+  store-satisfied : {j : ℕ} {u : Rule} {fs : List Finding} → Judged W n u s → Findings (Holds W n s) n j u fs → ICSatisfies n Given u ↔ (length fs ≡ 0)
+  store-satisfied d f = Iff·trans (theorem-c (settled-store k) (d .form) (d .within)) (no-finding f)
+
+  store-total : {u : Rule} {m : ℕ} → Totals W n u s (Count m) → ICSatisfies n Given u ↔ (m ≡ 0)
+  store-total (counted d f) = store-satisfied d f
+
+  -- for every store that keeps what follows, however it was built
+  pub published-store : PublishedStore W n Given s
+  published-store = record {
+    finding = λ {k = j} d f m x y.
+        let r = theorem-c-finding (settled-store k) (d .form) (d .within) m x y in
+        (λ o. r .0 (f .sound (findingOf j x y) o .1), λ v. f .whole x y (r .1 v));
+    satisfied = store-satisfied;
+    total = store-total;
+  }
