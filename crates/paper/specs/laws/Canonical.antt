@@ -1,7 +1,7 @@
 -- The model whose named elements are the articles: it satisfies exactly what follows. Assumes nothing.
-use mathlib.Core.Path.{_≡_, refl, sym, ap, subst}
+use mathlib.Core.Path.{_≡_, ap}
 use mathlib.Core.Logic.{_↔_}
-use mathlib.Core.Bool.{Bool, true, false}
+use mathlib.Core.Bool.{true, false}
 use Prim.Native.Nat.{ℕ}
 use Rattle.closure.specs.declared.Counts.{Counts}
 use Rattle.closure.specs.Cell.{Cell, DeclaredItem, Follows, Obeys, Within}

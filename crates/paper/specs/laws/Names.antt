@@ -1,5 +1,4 @@
 -- A well-formed rule of declared names: the items it names, in its head and its expressions, are declared. Assumes nothing.
-use mathlib.Core.Path.{sym, subst}
 use mathlib.Core.List.{List}
 use Prim.Native.Nat.{ℕ, zero, suc, _≤_, _<_}
 use Rattle.closure.specs.declared.Counts.{Counts}

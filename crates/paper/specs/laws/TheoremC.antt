@@ -22,7 +22,7 @@ use Rattle.rule.specs.Form.{RuleWithin, WellFormed}
 use Rattle.rule.specs.Meaning.{HoldsOf, Linked}
 use Rattle.rule.specs.laws.Holding.{holdsOf?, linked?}
 use Rattle.paper.specs.Interpretation.{Interpretation, Minimal}
-use Rattle.paper.specs.Known.{Composed, Equal, KnownOf, KnownRole, Named}
+use Rattle.paper.specs.Known.{Composed, KnownOf, KnownRole, Named}
 use Rattle.paper.specs.Satisfied.{ICSatisfies, Meets, ValueBreaks}
 use Rattle.paper.specs.Satisfied.ValueBreaks.{sub, rsub, chain, ref, irr, dis, isin, rel, norel, same, differ}
 use Rattle.paper.specs.laws.Canonical.{Settled, canonical, settled-obeys}

@@ -11,7 +11,7 @@ use Rattle.logic.specs.Number.Distinct.{none as no-other, more as one-more}
 use Rattle.logic.specs.laws.Number.{one-cases, one-none}
 use Rattle.closure.specs.declared.Counts.{Counts}
 use Rattle.closure.specs.Cell.{Cell, DeclaredItem}
-use Rattle.closure.specs.Cell.Cell.{Same, In, Link}
+use Rattle.closure.specs.Cell.Cell.{In, Link}
 use Rattle.rule.specs.declared.RoleUse.{RoleUse}
 use Rattle.rule.specs.Breaks.{Path}
 use Rattle.rule.specs.Expr.{Expr}
@@ -19,7 +19,7 @@ use Rattle.rule.specs.Expr.Expr.{name, top, neg, both, many, own, one}
 use Rattle.rule.specs.Meaning.{LinkedWay, Linked, Different, Articles, HoldsOf}
 use Rattle.rule.specs.Meaning.Different.{none, more}
 use Rattle.paper.specs.Interpretation.{Interpretation, Minimal}
-use Rattle.paper.specs.Known.{Named, KnownIn, KnownLink, KnownWay, KnownRole, Equal, AtLeast, KnownOf, Composed}
+use Rattle.paper.specs.Known.{Named, KnownIn, KnownLink, KnownWay, KnownRole, AtLeast, KnownOf, Composed}
 use Rattle.paper.specs.laws.Sound.{follows-satisfied}
 use Rattle.paper.specs.laws.Canonical.{Settled, canonical, canonical-in, canonical-link, settled-obeys}
 use Rattle.paper.specs.laws.TheoremB.{canonical-minimal, minimal-value}
