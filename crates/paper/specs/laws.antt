@@ -5,6 +5,7 @@ pub mod Canonical
 pub mod Told
 pub mod TheoremA
 pub mod TheoremB
+pub mod Lemmas
 pub mod Short
 pub mod Values
 pub mod Names
