@@ -3,4 +3,5 @@ pub mod Interpretation
 pub mod Known
 pub mod Satisfied
 pub mod Published
+pub mod Examples
 pub mod laws

@@ -11,3 +11,4 @@ pub mod Values
 pub mod Names
 pub mod TheoremC
 pub mod Published
+pub mod Examples
