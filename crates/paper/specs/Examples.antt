@@ -62,6 +62,10 @@ example2 = isIn 0 0 ∷ links 0 1 ∷ links 0 2 ∷ []
 abbrev pub example7 : List Statement
 example7 = isIn 0 0 ∷ links 0 1 ∷ links 0 2 ∷ isIn 1 1 ∷ isIn 2 1 ∷ []
 
+-- the items 1 and 2 are the same
+abbrev pub oneArticle : Statement
+oneArticle = statement.Same (record { 0 = 1 }) (record { 0 = 2 })
+
 -- what 000 says of them
 pub record Examples : Type 1 where
   -- Example 1: Product under some hasProducer Producer is violated
@@ -70,6 +74,8 @@ pub record Examples : Type 1 where
   pub example-2 : ¬ (ICSatisfies (named 3) (Stated example2) subAtMostOne)
   -- Example 7: C under at least 2 R D is satisfied
   pub example-7 : ICSatisfies (named 3) (Stated example7) (subAtLeast 2)
+  -- and violated where d1 and d2 are stated to be the same: elements are counted, not names
+  pub example-7-same : ¬ (ICSatisfies (named 3) (Stated (oneArticle ∷ example7)) (subAtLeast 2))
   -- Example 10: the findings of Example 1's rule are the answers of the query Product(x), not (hasProducer(x, y), Producer(y)), for any statements
   pub example-10 : {n : Counts} {lines : List Statement} → ((c : Cell) → Stated lines c → Within n c) → (x : ℕ)
       → Breaks (Follows n (Stated lines)) n (subAtLeast 1) x second.None

@@ -12,7 +12,7 @@ use Rattle.closure.specs.declared.Counts.{Counts}
 use Rattle.closure.specs.declared.Statement.{Statement}
 use Rattle.closure.specs.Cell.{Cell, DeclaredItem, Follows, Within, cellOf}
 use Rattle.closure.specs.Cell.Cell.{Same, In, Link}
-use Rattle.closure.specs.Cell.Follows.{given}
+use Rattle.closure.specs.Cell.Follows.{given, same-refl, same-sym, same-trans}
 use Rattle.closure.specs.Lines.{Stated}
 use Rattle.closure.specs.Lines.Stated.{stated}
 use Rattle.rule.specs.declared.Head.the-variants.{Ref, Irr}
@@ -24,9 +24,9 @@ use Rattle.rule.specs.Breaks.{Breaks}
 use Rattle.rule.specs.Expr.{Expr, exprAt, exprOf}
 use Rattle.rule.specs.Expr.Expr.{name, top, neg, many}
 use Rattle.rule.specs.Form.{CountFits, NodeWithin, RuleWithin, UsesLater, WellFormed, nodeAt, rootUses, usesBelow}
-use Rattle.rule.specs.Meaning.{Articles, HoldsOf}
+use Rattle.rule.specs.Meaning.{Articles, Different, HoldsOf}
 use Rattle.rule.specs.Meaning.Different.{none, more}
-use Rattle.paper.specs.Examples.{Examples, example1, example2, example7, named, role0, subAtLeast, subAtMostOne}
+use Rattle.paper.specs.Examples.{Examples, example1, example2, example7, named, oneArticle, role0, subAtLeast, subAtMostOne}
 use Rattle.paper.specs.Interpretation.{Interpretation, Entails, Model, Satisfies}
 use Rattle.paper.specs.Satisfied.{ICSatisfies}
 use Rattle.paper.specs.laws.Sound.{follows-satisfied}
@@ -223,6 +223,65 @@ none-7 x second.None (l, (a, b)) = rw (at-least-right 2) at b (subst (λ (z : �
 ex-7 : ICSatisfies (named 3) (Stated example7) (subAtLeast 2)
 ex-7 = theorem-c (settled-lines (λ c s. model-7 .satisfies c s .within)) (at-least-form 2 (omega arith) (omega arith)) (at-least-within 3 2) .1 none-7
 
+-- ---- Example 7 with d1 same as d2
+
+-- item 0 stands for itself, and all others for one element; item 0 is linked to that element and to no other
+abbrev merged : ℕ → ℕ
+merged zero = 0
+merged (suc a) = 1
+
+folded : Interpretation
+folded = record { domain = ℕ; concept = λ b d. Unit {0}; role = λ r d e. (d ≡ 0) × (e ≡ 1); item = merged }
+
+model-same : Model (named 3) (Stated (oneArticle ∷ example7)) folded
+unfolding folded
+model-same = lines-model (oneArticle ∷ example7) (
+  record { within = (omega arith, omega arith); condition = refl },
+  (
+    record { within = (omega arith, omega arith); condition = tt },
+    (
+      record { within = (omega arith, omega arith, omega arith); condition = (refl, refl) },
+      (
+        record { within = (omega arith, omega arith, omega arith); condition = (refl, refl) },
+        (
+          record { within = (omega arith, omega arith); condition = tt },
+          (record { within = (omega arith, omega arith); condition = tt }, tt),
+        ),
+      ),
+    ),
+  ),
+)
+
+-- what item 0 is linked to is item 1 or item 2, and these are the same
+breaks-same : Breaks (Follows (named 3) (Stated (oneArticle ∷ example7))) (named 3) (subAtLeast 2) 0 second.None
+unfolding HoldsOf folded
+breaks-same = (omega arith, (rw (at-least-left 2) (given (stated (later first))), rw (at-least-right 2) (λ a. pair (a .items) (a .count) (λ b o. a .each b o) (a .different))))
+  where
+    F : Cell → Type 0
+    F = Follows (named 3) (Stated (oneArticle ∷ example7))
+
+    linked : (b : ℕ) → F (Link 0 0 b) → merged b ≡ 1
+    linked b f = follows-satisfied model-same f .condition .1
+
+    -- an item that is linked is the same as item 1
+    to-one : (b : ℕ) → b < 3 → merged b ≡ 1 → F (Same 1 b)
+    to-one zero l e = absurd (omega arith)
+    to-one (suc zero) l e = same-refl l
+    to-one (suc (suc zero)) l e = given (stated first)
+    to-one (suc (suc (suc b))) l e = absurd (omega arith)
+
+    pair : (xs : List ℕ) → length xs ≡ 2 → ((b : ℕ) → One b xs → (b < 3) × (F (Link 0 0 b) × F (In b 1))) → ¬ (Different F xs)
+    pair [] e f d = omega arith
+    pair (x ∷ []) e f d = omega arith
+    pair (x ∷ y ∷ xs) e f (more apart d) =
+        let p = f x first in
+        let q = f y (later first) in
+        apart y first (same-trans (same-sym (to-one x (p .0) (linked x (p .1 .0)))) (to-one y (q .0) (linked y (q .1 .0))))
+
+ex-7-same : ¬ (ICSatisfies (named 3) (Stated (oneArticle ∷ example7)) (subAtLeast 2))
+ex-7-same z =
+    theorem-c (settled-lines (λ c s. model-same .satisfies c s .within)) (at-least-form 2 (omega arith) (omega arith)) (at-least-within 3 2) .0 z 0 second.None breaks-same
+
 -- ---- Example 10
 
 module _ {n : Counts} {lines : List Statement} (w : (c : Cell) → Stated lines c → Within n c) where
@@ -261,4 +320,4 @@ none-at-all e p q = (
 
 -- all of them
 pub examples : Examples
-examples = record { example-1 = ex-1; example-2 = ex-2; example-7 = ex-7; example-10 = query-10; no-items = none-at-all }
+examples = record { example-1 = ex-1; example-2 = ex-2; example-7 = ex-7; example-7-same = ex-7-same; example-10 = query-10; no-items = none-at-all }

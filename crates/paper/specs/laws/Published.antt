@@ -10,10 +10,11 @@ use Rattle.logic.specs.Number.One.{first}
 use Rattle.logic.specs.laws.Number.{one-none}
 use Rattle.closure.specs.declared.Counts.{Counts}
 use Rattle.closure.specs.declared.Statement.{Statement}
-use Rattle.closure.specs.Cell.{Cell, Within}
+use Rattle.closure.specs.Cell.{Cell, Nothing, Within}
 use Rattle.closure.specs.Layout.{Holds}
-use Rattle.closure.specs.Lines.{Stated}
+use Rattle.closure.specs.Lines.{Run, Stated}
 use Rattle.closure.specs.Promise.{Keeps}
+use Rattle.closure.specs.laws.Demand3.{demand-3}
 use Rattle.rule.specs.declared.Finding.{Finding}
 use Rattle.rule.specs.declared.Rule.{Rule}
 use Rattle.rule.specs.declared.Second.{Second}
@@ -70,3 +71,7 @@ module _ {W : ℕ} {n : Counts} {Given : Cell → Type 0} {s : List ℕ} (k : Ke
     satisfied = store-satisfied;
     total = store-total;
   }
+
+-- and so for a store that is built line by line from a fresh one, and the lines that were accepted
+pub published-run : {W : ℕ} {n : Counts} {s v : List ℕ} {lines kept : List Statement} {sum : ℕ} → Keeps W n Nothing s → Run W n s lines kept v sum → PublishedStore W n (Stated kept) v
+published-run {W} {n} k r = published-store (demand-3 W n .holds k r)
