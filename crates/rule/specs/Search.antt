@@ -1,6 +1,6 @@
 -- A search for findings, as a writer steps it.
 use mathlib.Core.Path.{_≡_}
-use mathlib.Core.List.{List, _∷_}
+use mathlib.Core.List.{List, [], _∷_, _++_}
 use Prim.Native.Nat.{ℕ, min, _≤_, _<_}
 use lib.ListN.{length}
 use Rattle.logic.specs.Lowest.{Lowest}
@@ -41,6 +41,11 @@ pub record Coming (s : List ℕ) (c : Search) (fs : List Finding) : Type 0 where
 pub record Stepped (s : List ℕ) (c d : Search) : Type 0 where
   pub ready : Ready s d
   pub next : (f : Finding) (fs : List Finding) → Coming s c (f ∷ fs) → Coming s d fs
+
+-- the search that began at `first` has met these findings, in order, and stands at c
+pub data Met (s : List ℕ) (first : Search) : List Finding → Search → Type 0 where
+  start : Met s first [] first
+  more : {fs : List Finding} {c d : Search} → Met s first fs c → Stepped s c d → Met s first (fs ++ c .finding ∷ []) d
 
 -- how a listing of the rule u begins, in a list of `room` places: refused, with nothing to write; or at the first of all findings
 pub data Opens (s : List ℕ) (n : Counts) (k : ℕ) (u : Rule) (room : ℕ) (p : Prepared) : Type 0 where

@@ -52,7 +52,7 @@ use denote.Triple.Walked.{says, needs, Stays, stay-slice, stay-none, stay-none-s
 use denote.Exit.{yes}
 use Rattle.rule.specs.Search.{Ready, Stepped}
 use Rattle.listing.specs.Listing.{WroteTo, Written}
-use Rattle.listing.specs.laws.Written.{wrote-length}
+use Rattle.listing.specs.laws.Written.{wrote-start, wrote-more, wrote-length}
 use Rattle.rule.specs.declared.Finding.{Finding}
 use Rattle.rule.specs.declared.Search.{Search}
 use Rattle.rule.proofs.Finding as T
@@ -280,14 +280,14 @@ module _ {M : Type 1} (𝓤 : URA M) (H : Heap 𝓤) (A : Atoms 𝓤) (W : Given
     turn-at : (t i : ℕ) (c : Search) (l : List Finding) → Facts t i c l → ent 𝓤 (⋆ 𝓤 H A (At i c l)) (Wp 𝓤 H C Λ En mir′.turn-1 (afterTurn 𝓤 H (Below t) Left))
     turn-at zero i c l f =
         let e : i ≡ n = omega (arith, f .0) in
-        subst (λ (k : ℕ). ent 𝓤 (⋆ 𝓤 H A (At k c l)) (Wp 𝓤 H C Λ En mir′.turn-1 (afterTurn 𝓤 H (Below zero) Left))) (sym e) (ends c l (Below zero) (wrote-length (f .1)) (record { last = c; wrote = subst (λ (k : ℕ). WroteTo (now s) first ys k c l) e (f .1) }))
+        subst (λ (k : ℕ). ent 𝓤 (⋆ 𝓤 H A (At k c l)) (Wp 𝓤 H C Λ En mir′.turn-1 (afterTurn 𝓤 H (Below zero) Left))) (sym e) (ends c l (Below zero) (wrote-length (omega (arith, f .0)) (f .1)) (record { last = c; wrote = subst (λ (k : ℕ). WroteTo (now s) first ys k c l) e (f .1) }))
     turn-at (suc t) i c l f =
         let small : i < n = omega (arith, f .0) in
-        let len : length l ≡ length ys = wrote-length (f .1) in
+        let len : length l ≡ length ys = wrote-length (omega (arith, f .0)) (f .1) in
         let within : i < length l = omega (arith, f .0) in
         more i c l (Below (suc t)) small within (off-fits i (length ys) (omega (arith, f .0)) (room .1)) (omega arith) (f .2 (omega arith)) (f .3) (λ r e g.
         via 𝓤 (Inv t)
-        (inv-in t (suc i) r (set l i (c .finding)) (omega (arith, f .0), WroteTo.more (f .1) e, (λ _. e .ready), g))
+        (inv-in t (suc i) r (set l i (c .finding)) (omega (arith, f .0), wrote-more (omega (arith, f .0)) (f .1) e, (λ _. e .ready), g))
         (via 𝓤 (guard 𝓤 (t < suc t) (Inv t)) (guardI 𝓤 (t < suc t) (Inv t) (omega arith)) (exI 𝓤 (λ (u : ℕ). guard 𝓤 (u < suc t) (Inv u)) t)))
 
     -- the same from the invariant itself
@@ -297,7 +297,7 @@ module _ {M : Type 1} (𝓤 : URA M) (H : Heap 𝓤) (A : Atoms 𝓤) (W : Given
 
     -- the loop, from its start
     loops : ent 𝓤 (⋆ 𝓤 H A (At 0 first ys)) (Wp 𝓤 H C Λ En (loop mir′.turn-1) Left)
-    loops = via 𝓤 (Inv n) (inv-in n 0 first ys (omega arith, WroteTo.start, ready₀, g₀)) (loop-rule 𝓤 H (W .laws) 𝓣 _<_ (Nat·lt-wfRel .wf) En mir′.turn-1 Left Inv turns n)
+    loops = via 𝓤 (Inv n) (inv-in n 0 first ys (omega arith, wrote-start, ready₀, g₀)) (loop-rule 𝓤 H (W .laws) 𝓣 _<_ (Nat·lt-wfRel .wf) En mir′.turn-1 Left Inv turns n)
 
   -- the MIR, up to the loop
   walk : (𝓣 : Tables 𝓤 H) → Triple 𝓤 (𝓣 .C #rule·seek·step) (Step 𝓤 H A mem run) → Room T.the-row (length ys) → n < 2 ^ 64 → Is (ShrSlice (named 1) κ′ u64) s (sv ∷ []) → Is U.the-row first (mc first ∷ []) → (n ≤ length ys) × (0 < n → Ready (now s) first)

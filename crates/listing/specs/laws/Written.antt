@@ -2,32 +2,32 @@
 use mathlib.Core.Path.{_≡_, refl, sym, ap, _∙_}
 use mathlib.Core.List.{List, [], _∷_, _++_}
 use Prim.Native.Nat.{ℕ, suc, _≤_, _<_}
-use native.Mathlib.Numerals.{add-one}
 use native.Mathlib.Omega.{arith}
-use lib.ListN.{length, getD, set, drop, length-set, length-append}
-use lib.Seq.{drop-cons, append-snoc, set-append-seam}
+use lib.ListN.{length, set, drop, length-append, length-drop}
+use lib.Seq.{drop-cons, append-snoc, set-at}
 use Rattle.rule.specs.declared.Finding.{Finding}
 use Rattle.rule.specs.declared.Search.{Search}
-use Rattle.listing.specs.Listing.{WroteTo, met}
+use Rattle.rule.specs.Search.{Met, Stepped}
+use Rattle.rule.specs.laws.Search.{met-more}
+use Rattle.listing.specs.Listing.{WroteTo}
+
+-- nothing is written yet
+pub wrote-start : {s : List ℕ} {first : Search} {l : List Finding} → WroteTo s first l 0 first l
+wrote-start = record { found = []; met = Met.start; count = refl; list = refl }
+
+-- one more finding is written
+pub wrote-more : {s : List ℕ} {first : Search} {l : List Finding} {i : ℕ} {c d : Search} {m : List Finding} → i < length l → WroteTo s first l i c m → Stepped s c d
+    → WroteTo s first l (suc i) d (set m i (c .finding))
+wrote-more {l = l} {i = i} {c = c} h w t =
+    let f : Finding = c .finding in
+    record {
+      found = w .found ++ f ∷ [];
+      met = Met.more (w .met) t;
+      count = met-more (w .found) f ∙ ap suc (w .count);
+      list = ap (λ (m : List Finding). set m i f) (w .list ∙ ap (λ (r : List Finding). w .found ++ r) (drop-cons l i f h))
+          ∙ set-at (w .found) _ (drop (suc i) l) f i (w .count) ∙ sym (append-snoc (w .found) f (drop (suc i) l));
+    }
 
 -- the list stays as long as it was
-pub wrote-length : {s : List ℕ} {first : Search} {l : List Finding} {n : ℕ} {d : Search} {m : List Finding} → WroteTo s first l n d m → length m ≡ length l
-wrote-length WroteTo.start = refl
-wrote-length (WroteTo.more {i = i} {c = c} {m = m} w t) = length-set m i (c .finding) ∙ wrote-length w
-
--- as many findings are met as are written
-pub met-length : {s : List ℕ} {first : Search} {l : List Finding} {n : ℕ} {d : Search} {m : List Finding} (w : WroteTo s first l n d m) → length (met w) ≡ n
-unfolding met
-met-length WroteTo.start = refl
-met-length (WroteTo.more {c = c} w t) = length-append (met w) (c .finding ∷ []) ∙ add-one (length (met w)) ∙ ap suc (met-length w)
-
--- the list begins with the findings met, and goes on as it was
-pub wrote-is : {s : List ℕ} {first : Search} {l : List Finding} {n : ℕ} {d : Search} {m : List Finding} (w : WroteTo s first l n d m) → n ≤ length l → m ≡ met w ++ drop n l
-unfolding met
-wrote-is WroteTo.start h = refl
-wrote-is {l = l} (WroteTo.more {i = i} {c = c} {m = m} w t) h =
-    let f : Finding = c .finding in
-    let within : i < length l = omega arith in
-    let was : m ≡ met w ++ getD l i f ∷ drop (suc i) l = wrote-is w (omega arith) ∙ ap (λ (r : List Finding). met w ++ r) (drop-cons l i f within) in
-    ap (λ (r : List Finding). set r i f) was ∙ ap (λ (k : ℕ). set (met w ++ getD l i f ∷ drop (suc i) l) k f) (sym (met-length w))
-    ∙ set-append-seam (met w) (getD l i f) (drop (suc i) l) f ∙ sym (append-snoc (met w) f (drop (suc i) l))
+pub wrote-length : {s : List ℕ} {first : Search} {l : List Finding} {n : ℕ} {d : Search} {m : List Finding} → n ≤ length l → WroteTo s first l n d m → length m ≡ length l
+wrote-length {l = l} {n = n} h w = omega (arith, ap length (w .list), length-append (w .found) (drop n l), length-drop n l, w .count)

@@ -1,9 +1,11 @@
 -- Laws of a search as a writer steps it, and of how a listing begins. Assumes nothing.
 use mathlib.Core.Path.{_≡_, refl, sym, ap, _∙_, subst}
-use mathlib.Core.List.{List, _∷_}
-use Prim.Native.Nat.{ℕ, min, _≤_, _<_}
+use mathlib.Core.List.{List, [], _∷_, _++_}
+use Prim.Native.Nat.{ℕ, suc, min, _≤_, _<_}
 use native.Mathlib.Omega.{arith}
-use lib.ListN.{length}
+use native.Mathlib.Numerals.{add-one}
+use lib.ListN.{length, take, length-append}
+use lib.Seq.{append-snoc, take-append-seam}
 use Rattle.logic.specs.Lowest.{Lowest}
 use Rattle.logic.specs.Number as counting
 use Rattle.logic.specs.laws.Number.{number-iff}
@@ -25,7 +27,7 @@ use Rattle.rule.specs.Findings.{Findings}
 use Rattle.rule.specs.Plan.{Planned, PlanBreaks}
 use Rattle.rule.specs.Promise.{Judged, RuleFault, Totals, number}
 use Rattle.rule.specs.Promise.Totals.{refused as total-refused, counted}
-use Rattle.rule.specs.Search.{Coming, Opens, Prepares, Ready, Starts, Stepped, Stops, cellsOf, cursorOf, searchAt}
+use Rattle.rule.specs.Search.{Coming, Met, Opens, Prepares, Ready, Starts, Stepped, Stops, cellsOf, cursorOf, searchAt}
 use Rattle.rule.specs.Search.Opens.{refused as not-opened, judged}
 use Rattle.rule.specs.laws.Cursor.{ahead-current}
 use Rattle.rule.specs.laws.Listed.{findings-listed, listed-iff}
@@ -42,6 +44,31 @@ stepped {c = c} r a = record {
   ready = record { laid = r .laid; store = r .store };
   next = λ f fs k. record { ahead = a .next (c .finding .rule) f fs (k .ahead); here = refl };
 }
+
+-- what was met are the first of the findings that were to come, and the others are still to come
+record Passed (s : List ℕ) (d : Search) (fs ms : List Finding) : Type 0 where
+  rest : List Finding
+  all : fs ≡ ms ++ rest
+  coming : Coming s d rest
+
+met-passed : {s : List ℕ} {first d : Search} {ms fs : List Finding} → Met s first ms d → Coming s first fs → length ms ≤ length fs → Passed s d fs ms
+met-passed {fs = fs} Met.start k h = record { rest = fs; all = refl; coming = k }
+met-passed {s} {fs = fs} (Met.more {fs = ms} {c = c} {d = d} w t) k h =
+    let long = length-append ms (c .finding ∷ []) in
+    let p = met-passed w k (omega arith) in
+    go (p .rest) (p .all) (p .coming)
+  where
+    go : (gs : List Finding) → fs ≡ ms ++ gs → Coming s c gs → Passed s d fs (ms ++ c .finding ∷ [])
+    go [] e k = absurd (omega (arith, ap length e, length-append ms [], length-append ms (c .finding ∷ [])))
+    go (g ∷ gs) e k = record { rest = gs; all = e ∙ ap (λ (f : Finding). ms ++ f ∷ gs) (coming-first k) ∙ sym (append-snoc ms (c .finding) gs); coming = t .next g gs k }
+
+-- the findings met are the first of those that were to come
+pub met-first : {s : List ℕ} {first d : Search} {ms fs : List Finding} → Met s first ms d → Coming s first fs → length ms ≤ length fs → take (length ms) fs ≡ ms
+met-first {ms = ms} w k h = let p = met-passed w k h in ap (take (length ms)) (p .all) ∙ take-append-seam ms (p .rest)
+
+-- one more is met
+pub met-more : (ms : List Finding) (f : Finding) → length (ms ++ f ∷ []) ≡ suc (length ms)
+met-more ms f = length-append ms (f ∷ []) ∙ add-one (length ms)
 
 -- a plan, the number of its findings and the cursor at the first are a listing that begins
 pub starts : {s : List ℕ} {at : Layout} {n : Counts} (k : ℕ) {u : Rule} (room : ℕ) {p : Plan} {c : Cursor} {t : ℕ} → Laid at s → ClosedStore (at .width) n s → Planned (Holds (at .width) n s) n u p
