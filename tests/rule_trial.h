@@ -53,7 +53,10 @@
  *   -3   the rule is malformed
  *   -4   an item, concept or role number of the rule is not below its count
  *
- * the first of these that applies. The store and the rule are only read.
+ * the first of these that applies. The library answers a word, in which minus k is
+ * 2^64 - k; a total is far below 2^63, so that the word read as an int64_t is the
+ * same number. The store and the rule are only read. crates/trial/specs has the
+ * same as definitions, which the library is proved to meet.
  */
 int64_t trial_findings(const uint64_t *words, size_t length,
                        uint64_t items, uint64_t concepts, uint64_t roles,

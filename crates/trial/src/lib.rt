@@ -3,6 +3,8 @@ ghost use Prim.Native.Nat.{_+_, _*_, _<_, _≤_};
 ghost use mathlib.Core.Path.{_≡_};
 ghost use lib.ListN.{length};
 ghost use Rattle.rule.specs.Search.{Ready};
+ghost use Rattle.trial.specs.Trial.{Trial, Written, countsOf};
+ghost use Rattle.trial.specs.Words.{chainOf, codeOf, headOf, namedOf, nodeOf, nodesBelow, roleUseAt, ruleWords, secondWord};
 use closure::Concept;
 use closure::Counts;
 use closure::Item;
@@ -19,7 +21,8 @@ use rule::Total;
 
 // The role, or its inverse, at word i.
 fn role_use(given: &[u64], i: usize) -> RoleUse
-    requires { ⌜ (length (now given) ≡ 173) × (i + 2 ≤ 173) ⌝ }
+    requires { ⌜ (length (now given) ≡ ruleWords) × (i + 2 ≤ ruleWords) ⌝ }
+    ensures { λ r. ⌜ r ≡ roleUseAt (now (given .entry)) i ⌝ }
 {
     RoleUse {
         role: Role(given[i] as usize),
@@ -29,7 +32,8 @@ fn role_use(given: &[u64], i: usize) -> RoleUse
 
 // The node whose words begin at word i.
 fn node(given: &[u64], i: usize) -> Node
-    requires { ⌜ (length (now given) ≡ 173) × (i + 5 ≤ 173) ⌝ }
+    requires { ⌜ (length (now given) ≡ ruleWords) × (i + 5 ≤ ruleWords) ⌝ }
+    ensures { λ r. ⌜ r ≡ nodeOf (now (given .entry)) i ⌝ }
 {
     let kind = given[i];
     let a = given[i + 1] as usize;
@@ -54,9 +58,10 @@ fn node(given: &[u64], i: usize) -> Node
     Node::Top
 }
 
-// The head of a rule that has roles alone, or roots.
+// The head of a rule.
 fn head(given: &[u64]) -> Head
-    requires { ⌜ length (now given) ≡ 173 ⌝ }
+    requires { ⌜ length (now given) ≡ ruleWords ⌝ }
+    ensures { λ r. ⌜ r ≡ headOf (now (given .entry)) ⌝ }
 {
     let kind = given[0];
     let a = given[1] as usize;
@@ -87,7 +92,8 @@ fn head(given: &[u64]) -> Head
 
 // The head of a chain.
 fn chain(given: &[u64]) -> Head
-    requires { ⌜ length (now given) ≡ 173 ⌝ }
+    requires { ⌜ length (now given) ≡ ruleWords ⌝ }
+    ensures { λ r. ⌜ r ≡ chainOf (now (given .entry)) ⌝ }
 {
     let k = given[1] as usize;
     let last = role_use(given, 10);
@@ -101,9 +107,10 @@ fn chain(given: &[u64]) -> Head
     )
 }
 
-// The head of a rule about two items.
+// The head of a rule of the kind given about two items.
 fn named(given: &[u64], kind: u64) -> Head
-    requires { ⌜ length (now given) ≡ 173 ⌝ }
+    requires { ⌜ length (now given) ≡ ruleWords ⌝ }
+    ensures { λ r. ⌜ r ≡ namedOf (now (given .entry)) kind ⌝ }
 {
     let a = Item(given[1] as usize);
     let b = Item(given[2] as usize);
@@ -121,11 +128,19 @@ fn named(given: &[u64], kind: u64) -> Head
     Head::Differ(a, b)
 }
 
+// Places for the nodes of a rule.
+fn blank() -> [Slot; 32]
+    ensures { λ r. ⌜ length r ≡ 32 ⌝ }
+{
+    [Slot { node: Node::Top }; 32]
+}
+
 // The nodes of a rule.
 fn nodes(given: &[u64]) -> [Slot; 32]
-    requires { ⌜ length (now given) ≡ 173 ⌝ }
+    requires { ⌜ length (now given) ≡ ruleWords ⌝ }
+    ensures { λ r. ⌜ r ≡ nodesBelow (now (given .entry)) 32 ⌝ }
 {
-    let mut slots = [Slot { node: Node::Top }; 32];
+    let mut slots = blank();
     let mut i = 0;
     while i < 32 {
         slots[i] = Slot {
@@ -137,7 +152,9 @@ fn nodes(given: &[u64]) -> [Slot; 32]
 }
 
 // The number of findings, or minus the number of refusal.
-fn code(t: Total) -> u64 {
+fn code(t: Total) -> u64
+    ensures { λ r. ⌜ r ≡ codeOf t ⌝ }
+{
     match t {
         Total::Count(m) => m,
         Total::Refused(k) => match k {
@@ -150,16 +167,19 @@ fn code(t: Total) -> u64 {
 }
 
 // The word of a second item.
-fn second(s: Second) -> u64 {
+fn second(s: Second) -> u64
+    ensures { λ r. ⌜ r ≡ secondWord s ⌝ }
+{
     match s {
         Second::None => 18446744073709551615,
         Second::Item(i) => i.0 as u64,
     }
 }
 
-// Writes the first n findings, two words each.
+// Writes the first n findings from the search on, two words each.
 fn write(out: &mut [u64], n: usize, words: &[u64], first: Search)
     requires { ⌜ (2 * n ≤ length (now out)) × (0 < n → Ready (now words) first) ⌝ }
+    ensures { λ _. ⌜ Written (now (words .entry)) first n (now (out .entry)) (now (out .exit)) ⌝ }
 {
     let mut c = first;
     let mut i = 0;
@@ -174,7 +194,7 @@ fn write(out: &mut [u64], n: usize, words: &[u64], first: Search)
     }
 }
 
-// Finds what breaks a rule.
+// Finds what breaks the rule that the words given say: the number of findings, the first ones as far as `out` reaches; or minus the number of refusal.
 #[no_mangle]
 pub extern "C" fn trial_findings(
     words: &[u64],
@@ -183,7 +203,9 @@ pub extern "C" fn trial_findings(
     roles: usize,
     given: &[u64],
     out: &mut [u64],
-) -> u64 {
+) -> u64
+    ensures { λ r. ⌜ Trial (countsOf items concepts roles) (now (words .entry)) (now (given .entry)) (now (out .entry)) (now (out .exit)) r ⌝ }
+{
     if given.len() != 173 {
         return 18446744073709551517;
     }

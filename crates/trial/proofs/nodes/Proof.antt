@@ -1,58 +1,60 @@
-use Prim.Native.Nat.{_*_, _-_, _≤_}
-use mathlib.Core.Path.{_≡_}
+-- `trial::nodes` meets its contract: the first i nodes are read. Assumes nothing.
+use Prim.Native.Nat.{_-_, _≤_, _<_}
+use mathlib.Core.Path.{_≡_, refl, sym, ap, _∙_}
 use native.Mathlib.Omega.{arith}
-use lib.ListN.{length}
+use lib.ListN.{length, take, length-set}
+use lib.Seq.{take-all}
+use borrow.Author.Needs.{needs}
+use Rattle.trial.specs.Words.{nodesBelow}
+use Rattle.trial.specs.laws.Words.{nodes-more}
 use Rattle.trial.proofs.nodes.Statement.{statement}
 use Rattle.trial.proofs.nodes.Tie as tie
-use Rattle.trial.proofs.nodes.Reads as reads
-use Rattle.trial.proofs.nodes.Lts as lts
-use Rattle.trial.proofs.node.Reads as node-reads
 
 abbrev Inv-loop : tie.InvT-loop
-Inv-loop given slots₀ i₀ slots i = i ≤ 32
+Inv-loop given slots₀ i₀ slots i = (i ≤ 32) × (length slots ≡ 32) × (take i slots ≡ nodesBelow given i)
 
 abbrev μ-loop : tie.MeasureT-loop
 μ-loop given slots₀ i₀ slots i = 32 - i
 
--- src/lib.rt:121:5
+blank-requires : tie.Need-blank-requires Inv-loop μ-loop
+blank-requires c κs = search needs
+
 loop-holds : tie.Need-loop-holds Inv-loop μ-loop
-loop-holds c = omega arith
+unfolding nodesBelow
+loop-holds c = (omega arith, c .blank .ensures, refl)
 
--- src/lib.rt:122:50
 mul-node : tie.Need-mul-node Inv-loop μ-loop
-mul-node c = omega arith
+mul-node c = search needs
 
--- src/lib.rt:122:45
 add-node : tie.Need-add-node Inv-loop μ-loop
-add-node c = omega arith
+add-node c = search needs
 
--- src/lib.rt:122:33
 node-requires : tie.Need-node-requires Inv-loop μ-loop
-node-requires c κs = omega arith
+node-requires c κs = search needs
 
--- src/lib.rt:122:9
 mul-slots : tie.Need-mul-slots Inv-loop μ-loop
-mul-slots c = omega arith
+mul-slots c = search needs
 
--- src/lib.rt:122:9
 array-set-from-slots : tie.Need-array-set-from-slots Inv-loop μ-loop
-array-set-from-slots c = omega arith
+array-set-from-slots c = search needs
 
--- src/lib.rt:123:9
 add-i : tie.Need-add-i Inv-loop μ-loop
-add-i c = omega arith
+add-i c = search needs
 
--- src/lib.rt:121:5
 loop-less : tie.Need-loop-less Inv-loop μ-loop
-loop-less c = omega arith
+loop-less c = search needs
 
--- src/lib.rt:121:5
 loop-again : tie.Need-loop-again Inv-loop μ-loop
-loop-again c = omega arith
+loop-again c =
+    let at-loop = c .before .before .loop in
+    let h : at-loop .i < length (at-loop .slots) = omega (arith, at-loop .inv .1) in
+    (omega arith, length-set (at-loop .slots) (at-loop .i) _ ∙ at-loop .inv .1, rw (c .node .ensures) (nodes-more _ (at-loop .i) (at-loop .slots) h (at-loop .inv .2)))
 
--- src/lib.rt:116:1
 returns : tie.Need-returns Inv-loop μ-loop
-returns c = record {}
+returns c =
+    let at-loop = c .before .loop in
+    let e : at-loop .i ≡ 32 = omega (arith, at-loop .inv .0) in
+    sym (take-all (at-loop .i) (at-loop .slots) (omega (arith, at-loop .inv .1))) ∙ at-loop .inv .2 ∙ ap (nodesBelow _) e
 
 pub nodes-spec : {M : Type 1} → statement M
 nodes-spec =
@@ -60,6 +62,7 @@ nodes-spec =
     (tie.spec
     Inv-loop
     μ-loop
+    blank-requires
     loop-holds
     mul-node
     add-node

@@ -1,0 +1,3 @@
+-- What is proved of the trial's words and of its promise.
+pub mod Words
+pub mod Trial
