@@ -3,6 +3,7 @@
 import argparse
 import os
 import random
+import re
 import subprocess
 import tempfile
 from pathlib import Path
@@ -53,6 +54,12 @@ def last_said(lines):
 # Compiles one file of the tests.
 def compile_file(name, result, options=()):
     subprocess.run([*COMPILER, *options, "-c", str(ROOT / "tests" / name), "-o", str(BUILD / result)], check=True)
+
+
+# The options that plant each of the faults that a file lists for a macro, in the enum whose names begin with NO_.
+def planted(name, macro):
+    listed = re.search(r"enum \w*fault \{\s*NO_\w+,(.*?)\};", (ROOT / "tests" / name).read_text(), re.S).group(1)
+    return [f"-D{macro}={fault}" for fault in re.findall(r"^\s*([A-Z0-9_]+)", listed, re.M)]
 
 
 # Links a program.

@@ -23,143 +23,27 @@
  */
 #define _POSIX_C_SOURCE 199309L
 
-#include "commands.h"
+#include "calls.h"
 #include "rule_trial.h"
 #include "saltreeve.h"
 
-#include <inttypes.h>
-#include <signal.h>
-#include <stdio.h>
-#include <stdlib.h>
-#include <string.h>
 #include <time.h>
-#include <unistd.h>
-
-enum {
-    MOST_WORDS = 65536,  /* the longest list that can be lent */
-    PLACE_BYTES = 256
-};
-
-/* Words lent: guard words around them, and what they should be after a call. */
-struct lent {
-    uint64_t *block, *words, *due;
-    size_t length;
-};
 
 /* What is lent, what is due, and where the test is. */
 struct run {
     struct lent store, rule, out;
     uint64_t items, concepts, roles;
     int64_t result;
-    uint64_t *found;  /* the pairs due */
-    char part[NAME_BYTES];
-    uint64_t part_number, part_calls, calls;
+    struct lent found;  /* the pairs due */
+    struct place place;
 };
-
-/* Where the test is, as text for the case that it ends there. */
-static char place[PLACE_BYTES];
-
-/* Room for so many words. */
-static uint64_t *allocate(size_t words)
-{
-    uint64_t *room = malloc((words + 1) * sizeof *room);
-    if (room == NULL)
-        stop("no memory");
-    return room;
-}
-
-/* Lends so many words, all of one value, and takes back what was lent before. */
-static void lend(struct lent *lent, size_t length, uint64_t value)
-{
-    if (length > MOST_WORDS)
-        stop("a list is too long");
-    free(lent->block);
-    free(lent->due);
-    lent->block = allocate(length + 2 * GUARD_WORDS);
-    lent->due = allocate(length);
-    lent->words = lent->block + GUARD_WORDS;
-    lent->length = length;
-    for (size_t i = 0; i < GUARD_WORDS; i++)
-        lent->block[i] = lent->words[length + i] = GUARD;
-    for (size_t i = 0; i < length; i++)
-        lent->words[i] = lent->due[i] = value;
-}
-
-/* Lends a list of words that is read. */
-static void lend_list(struct lent *lent)
-{
-    lend(lent, read_number(), 0);
-    for (uint64_t left = read_number(); left > 0; left--) {
-        uint64_t index = read_number();
-        if (index >= lent->length)
-            stop("an index is too large");
-        lent->words[index] = lent->due[index] = read_number();
-    }
-}
 
 /* Lends an out list for a call, and says which pairs are to be written to it. */
 static void lend_out(struct run *run, size_t length)
 {
-    lend(&run->out, length, GUARD);
-    for (int64_t i = 0; i < run->result && 2 * (size_t)i + 2 <= length; i++) {
-        run->out.due[2 * i] = run->found[2 * i];
-        run->out.due[2 * i + 1] = run->found[2 * i + 1];
-    }
-}
-
-/* Whether the guard words are as they were. */
-static int guards_stand(const struct lent *lent)
-{
-    for (size_t i = 0; i < GUARD_WORDS; i++)
-        if (lent->block[i] != GUARD || lent->words[lent->length + i] != GUARD)
-            return 0;
-    return 1;
-}
-
-/* Whether all words lent, and those around them, are what they should be. */
-static int as_due(const struct lent *lent)
-{
-    return memcmp(lent->words, lent->due, lent->length * sizeof *lent->words) == 0 && guards_stand(lent);
-}
-
-/* Says which word is not what it should be, if one is not. */
-static void print_words(const char *name, const struct lent *lent)
-{
-    for (size_t i = 0; i < lent->length; i++)
-        if (lent->words[i] != lent->due[i]) {
-            printf("word %zu of the %s: expected %" PRIu64 ", got %" PRIu64 "\n", i, name, lent->due[i],
-                   lent->words[i]);
-            break;
-        }
-    if (!guards_stand(lent))
-        printf("a word outside the %s was changed\n", name);
-}
-
-/* Notes where the test is. */
-static void note_place(const struct run *run)
-{
-    snprintf(place, sizeof place,
-             "difference in %s %" PRIu64 ", call %" PRIu64 ", which is call %" PRIu64 " of all, out list of %zu words\n",
-             run->part, run->part_number, run->part_calls, run->calls, run->out.length);
-}
-
-/* Says where the test is when a signal stops a call, and lets the signal end the program. */
-static void on_signal(int number)
-{
-    static const char WHY[] = "the call was stopped by a signal\n";
-    ssize_t written = write(STDOUT_FILENO, place, strlen(place));
-    if (written >= 0)
-        written = write(STDOUT_FILENO, WHY, sizeof WHY - 1);
-    signal(number, SIG_DFL);
-    raise(number);
-}
-
-/* Has the signals that stop a call say where the test is. */
-static void watch_signals(void)
-{
-    static const int STOPPING[] = {SIGALRM, SIGABRT, SIGSEGV, SIGBUS, SIGFPE, SIGILL};
-    for (size_t i = 0; i < sizeof STOPPING / sizeof STOPPING[0]; i++)
-        signal(STOPPING[i], on_signal);
+    lend(&run->out, sizeof(uint64_t), length, GUARD);
+    for (size_t i = 0; i < run->found.length && i < length / 2 * 2; i++)
+        set_due(&run->out, i, get_entry(run->found.due, run->found.width, i));
 }
 
 /* Ends the program if the result or a word is not what it should be. */
@@ -167,23 +51,21 @@ static void compare_call(const struct run *run, int64_t got)
 {
     if (got == run->result && as_due(&run->store) && as_due(&run->rule) && as_due(&run->out))
         return;
-    printf("%s", place);
+    printf("%s", place_text);
     printf("result: expected %" PRId64 ", got %" PRId64 "\n", run->result, got);
-    print_words("store", &run->store);
-    print_words("rule", &run->rule);
-    print_words("out list", &run->out);
+    print_entries("store", &run->store);
+    print_entries("rule", &run->rule);
+    print_entries("out list", &run->out);
     exit(1);
 }
 
 /* Makes one call and compares. */
 static void call_once(struct run *run)
 {
-    run->calls++;
-    run->part_calls++;
-    note_place(run);
+    next_call(&run->place, run->out.length);
     alarm(CALL_SECONDS);
-    int64_t got = trial_findings(run->store.words, run->store.length, run->items, run->concepts, run->roles,
-                                 run->rule.words, run->rule.length, run->out.words, run->out.length);
+    int64_t got = trial_findings(run->store.entries, run->store.length, run->items, run->concepts, run->roles,
+                                 run->rule.entries, run->rule.length, run->out.entries, run->out.length);
     alarm(0);
     compare_call(run, got);
 }
@@ -191,13 +73,9 @@ static void call_once(struct run *run)
 /* Reads the pairs that are due. */
 static void read_findings(struct run *run)
 {
-    size_t words = run->result > 0 ? 2 * (size_t)run->result : 0;
-    if (words > MOST_WORDS)
-        stop("too many findings");
-    free(run->found);
-    run->found = allocate(words);
-    for (size_t i = 0; i < words; i++)
-        run->found[i] = read_number();
+    lend(&run->found, sizeof(uint64_t), run->result > 0 ? 2 * (size_t)run->result : 0, 0);
+    for (size_t i = 0; i < run->found.length; i++)
+        set_due(&run->found, i, read_number());
 }
 
 /* Makes calls with out lists of some lengths. */
@@ -214,24 +92,6 @@ static void do_call(struct run *run)
     }
 }
 
-/* Names the next part, and prints the name in case the program is stopped in it. */
-static void do_part(struct run *run)
-{
-    if (!read_word(run->part))
-        stop("a name is missing");
-    run->part_number = read_number();
-    run->part_calls = 0;
-    printf("%s %" PRIu64 "\n", run->part, run->part_number);
-    fflush(stdout);
-}
-
-/* Takes back what was lent. */
-static void take_back(struct lent *lent)
-{
-    free(lent->block);
-    free(lent->due);
-}
-
 /* Carries out all commands and says how many calls they were. */
 static void run_commands(void)
 {
@@ -240,7 +100,7 @@ static void run_commands(void)
     watch_signals();
     while (read_word(word)) {
         if (strcmp(word, "part") == 0)
-            do_part(&run);
+            do_part(&run.place);
         else if (strcmp(word, "store") == 0)
             lend_list(&run.store);
         else if (strcmp(word, "rule") == 0)
@@ -253,8 +113,8 @@ static void run_commands(void)
     take_back(&run.store);
     take_back(&run.rule);
     take_back(&run.out);
-    free(run.found);
-    printf("done %" PRIu64 "\n", run.calls);
+    take_back(&run.found);
+    printf("done %" PRIu64 "\n", run.place.calls);
 }
 
 /* --- Timing: always 128 items, 32 concepts and 16 roles. --- */

@@ -1,11 +1,9 @@
 """Shows that the test of rules by number can fail.
 
-Builds the stand-in tests/rule_reference.c as it is and with each of its faults, gives
-the same commands to all of them, and asks that the sound one passes and that each
-faulty one is found out.
+Builds the stand-in tests/rule_reference.c as it is and with each fault that it or
+tests/rule_shape.h lists, gives the same commands to all of them, and asks that the
+sound one passes and that each faulty one is found out.
 """
-
-import re
 
 import harness
 import rule_cases
@@ -27,13 +25,6 @@ SPOILED = (
 )
 
 
-# The names of all faults that can be planted, as the stand-in lists them.
-def faults():
-    listed = re.search(r"enum fault \{(.*?)\};", (harness.ROOT / "tests" / "rule_reference.c").read_text(), re.S).group(1)
-    names = re.findall(r"^\s*([A-Z0-9_]+)", listed, re.M)
-    return [name for name in names if name != "NO_FAULT"]
-
-
 # The commands of a short test, and the number of their calls.
 def short_test(seed):
     written = []
@@ -53,5 +44,5 @@ def run(seed):
     harness.BUILD.mkdir(parents=True, exist_ok=True)
     harness.compile_file("rule_driver.c", "rule_selftest_driver.o")
     harness.compile_file("reference_store.c", "rule_selftest_store.o")
-    options = [f"-DRULE_FAULT={fault}" for fault in faults()]
+    options = harness.planted("rule_shape.h", "SHAPE_FAULT") + harness.planted("rule_reference.c", "RULE_FAULT")
     return harness.selftest("rule", seed, short_test(seed), build, options, RIGHT, SPOILED)

@@ -1,5 +1,5 @@
 /*
- * Rules by number, as a library made only for tests offers them.
+ * Rules by number and their queries, as a library made only for tests offers them.
  *
  * A rule is 173 words:
  *
@@ -62,5 +62,23 @@ int64_t trial_findings(const uint64_t *words, size_t length,
                        uint64_t items, uint64_t concepts, uint64_t roles,
                        const uint64_t *rule, size_t rule_length,
                        uint64_t *out, size_t out_length);
+
+/*
+ * Compiles a rule to a query. Returns four times the number of its items, plus the
+ * number of its answer variables, and writes the items to `room`, four words each;
+ * the words past them stay as they are. Or returns, and writes nothing:
+ *
+ *   -99  rule_length is not 173
+ *   -1   a count is over its limit
+ *   -3   the rule is malformed
+ *   -4   an item, concept or role number of the rule is not below its count
+ *   -5   the query is longer than 512 items
+ *   -6   room_length is under four words per item
+ *
+ * the first of these that applies. The rule is only read.
+ */
+int64_t trial_compile(uint64_t items, uint64_t concepts, uint64_t roles,
+                      const uint64_t *rule, size_t rule_length,
+                      uint16_t *room, size_t room_length);
 
 #endif

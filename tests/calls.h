@@ -1,0 +1,182 @@
+/*
+ * What the drivers share that lend lists to a call: the lists, with guard bytes
+ * around them and what they should be after the call, and where the test is.
+ */
+#ifndef CALLS_H
+#define CALLS_H
+
+#include "commands.h"
+
+#include <inttypes.h>
+#include <signal.h>
+#include <string.h>
+#include <unistd.h>
+
+enum {
+    GUARD_BYTES = 512,       /* kept before and after the entries lent */
+    GUARD_BYTE = 0xA5,
+    MOST_ENTRIES = 131072,   /* the longest list that can be lent */
+    PLACE_BYTES = 256
+};
+
+/* A list lent: its entries, of 2 or 8 bytes each, guard bytes around them, and what they should be after a call. */
+struct lent {
+    unsigned char *block, *due;
+    void *entries;
+    size_t length, width;
+};
+
+/* Where the test is. */
+struct place {
+    char part[NAME_BYTES];
+    uint64_t part_number, part_calls, calls;
+};
+
+/* Where the test is, as text for the case that it ends there. */
+static char place_text[PLACE_BYTES];
+
+/* Writes an entry of a list. */
+static void put_entry(unsigned char *list, size_t width, size_t at, uint64_t value)
+{
+    uint16_t narrow = (uint16_t)value;
+    if (width == sizeof value)
+        memcpy(list + at * width, &value, sizeof value);
+    else
+        memcpy(list + at * width, &narrow, sizeof narrow);
+}
+
+/* Reads an entry of a list. */
+static uint64_t get_entry(const unsigned char *list, size_t width, size_t at)
+{
+    uint64_t value;
+    uint16_t narrow;
+    memcpy(&narrow, list + at * width, sizeof narrow);
+    if (width != sizeof value)
+        return narrow;
+    memcpy(&value, list + at * width, sizeof value);
+    return value;
+}
+
+/* Room for so many bytes. */
+static unsigned char *allocate(size_t bytes)
+{
+    unsigned char *room = malloc(bytes + 1);
+    if (room == NULL)
+        stop("no memory");
+    return room;
+}
+
+/* Takes back what was lent. */
+static void take_back(struct lent *lent)
+{
+    free(lent->block);
+    free(lent->due);
+}
+
+/* Lends so many entries, all of one value, and takes back what was lent before. */
+static void lend(struct lent *lent, size_t width, size_t length, uint64_t value)
+{
+    if (length > MOST_ENTRIES)
+        stop("a list is too long");
+    take_back(lent);
+    lent->block = allocate(length * width + 2 * GUARD_BYTES);
+    lent->due = allocate(length * width);
+    lent->entries = lent->block + GUARD_BYTES;
+    lent->length = length;
+    lent->width = width;
+    memset(lent->block, GUARD_BYTE, length * width + 2 * GUARD_BYTES);
+    for (size_t i = 0; i < length; i++)
+        put_entry(lent->due, width, i, value);
+    memcpy(lent->entries, lent->due, length * width);
+}
+
+/* Says what an entry is to be after the next call. */
+static void set_due(struct lent *lent, size_t at, uint64_t value)
+{
+    put_entry(lent->due, lent->width, at, value);
+}
+
+/* Lends a list of 64-bit words that is read. */
+static void lend_list(struct lent *lent)
+{
+    lend(lent, sizeof(uint64_t), read_number(), 0);
+    for (uint64_t left = read_number(); left > 0; left--) {
+        uint64_t index = read_number();
+        if (index >= lent->length)
+            stop("an index is too large");
+        set_due(lent, index, read_number());
+    }
+    memcpy(lent->entries, lent->due, lent->length * lent->width);
+}
+
+/* Whether the guard bytes are as they were. */
+static int guards_stand(const struct lent *lent)
+{
+    const unsigned char *end = lent->block + GUARD_BYTES + lent->length * lent->width;
+    for (size_t i = 0; i < GUARD_BYTES; i++)
+        if (lent->block[i] != GUARD_BYTE || end[i] != GUARD_BYTE)
+            return 0;
+    return 1;
+}
+
+/* Whether all entries lent, and the bytes around them, are what they should be. */
+static int as_due(const struct lent *lent)
+{
+    return memcmp(lent->entries, lent->due, lent->length * lent->width) == 0 && guards_stand(lent);
+}
+
+/* Says which entry is not what it should be, if one is not. */
+static void print_entries(const char *name, const struct lent *lent)
+{
+    for (size_t i = 0; i < lent->length; i++) {
+        uint64_t due = get_entry(lent->due, lent->width, i), got = get_entry(lent->entries, lent->width, i);
+        if (due != got) {
+            printf("word %zu of the %s: expected %" PRIu64 ", got %" PRIu64 "\n", i, name, due, got);
+            break;
+        }
+    }
+    if (!guards_stand(lent))
+        printf("a byte outside the %s was changed\n", name);
+}
+
+/* Names the next part, and prints the name in case the program is stopped in it. */
+static void do_part(struct place *place)
+{
+    if (!read_word(place->part))
+        stop("a name is missing");
+    place->part_number = read_number();
+    place->part_calls = 0;
+    printf("%s %" PRIu64 "\n", place->part, place->part_number);
+    fflush(stdout);
+}
+
+/* Notes that the next call comes, with so many words of room. */
+static void next_call(struct place *place, size_t room)
+{
+    place->calls++;
+    place->part_calls++;
+    snprintf(place_text, sizeof place_text,
+             "difference in %s %" PRIu64 ", call %" PRIu64 ", which is call %" PRIu64 " of all, room of %zu words\n",
+             place->part, place->part_number, place->part_calls, place->calls, room);
+}
+
+/* Says where the test is when a signal stops a call, and lets the signal end the program. */
+static void on_signal(int number)
+{
+    static const char WHY[] = "the call was stopped by a signal\n";
+    ssize_t written = write(STDOUT_FILENO, place_text, strlen(place_text));
+    if (written >= 0)
+        written = write(STDOUT_FILENO, WHY, sizeof WHY - 1);
+    signal(number, SIG_DFL);
+    raise(number);
+}
+
+/* Has the signals that stop a call say where the test is. */
+static void watch_signals(void)
+{
+    static const int STOPPING[] = {SIGALRM, SIGABRT, SIGSEGV, SIGBUS, SIGFPE, SIGILL};
+    for (size_t i = 0; i < sizeof STOPPING / sizeof STOPPING[0]; i++)
+        signal(STOPPING[i], on_signal);
+}
+
+#endif

@@ -1,0 +1,271 @@
+/*
+ * Calls the test library's compiled queries, and compares.
+ *
+ *   query_driver           reads commands from standard input (see tests/query_test.py)
+ *   query_driver --stack   prints how much stack the deepest rules take
+ *   query_driver --time    prints the time of a call for some rules
+ *
+ * The commands are words and decimal numbers parted by blanks. A list of words
+ * is written as its length, then how many words are not 0, then an index and a
+ * value for each of these:
+ *
+ *   part NAME NUMBER     names the part of the test that comes next
+ *   rule LIST            lends a rule
+ *   call ITEMS CONCEPTS ROLES QUERY ROOMS
+ *                        makes calls on it; QUERY is a number and so many words, due
+ *                        in the room where the rule is not refused, and ROOMS is a
+ *                        number and so many pairs, one for each call: the length of
+ *                        the room, and the result due
+ *
+ * After every call the result and all words of the rule and the room are compared,
+ * also the bytes kept around those lent. The first difference is printed and ends
+ * the program with 1. A call that fails, or does not come back within some seconds,
+ * ends it by a signal; which call it was is printed.
+ */
+#define _XOPEN_SOURCE 600
+
+#include "calls.h"
+#include "rule_trial.h"
+#include "saltreeve.h"
+
+#include <time.h>
+#include <ucontext.h>
+
+enum { MOST_QUERY_WORDS = 4 * 512 };
+
+/* What is lent, what is due, and where the test is. */
+struct run {
+    struct lent rule, room;
+    uint64_t items, concepts, roles;
+    uint16_t query[MOST_QUERY_WORDS];  /* the words due */
+    size_t query_words;
+    int64_t result;
+    struct place place;
+};
+
+/* Lends a room for a call, and says which words are to be written to it. */
+static void lend_room(struct run *run, size_t length)
+{
+    lend(&run->room, sizeof(uint16_t), length, GUARD);
+    for (size_t i = 0; run->result >= 0 && i < run->query_words && i < length; i++)
+        set_due(&run->room, i, run->query[i]);
+}
+
+/* Ends the program if the result or a word is not what it should be. */
+static void compare_call(const struct run *run, int64_t got)
+{
+    if (got == run->result && as_due(&run->rule) && as_due(&run->room))
+        return;
+    printf("%s", place_text);
+    printf("result: expected %" PRId64 ", got %" PRId64 "\n", run->result, got);
+    print_entries("rule", &run->rule);
+    print_entries("room", &run->room);
+    exit(1);
+}
+
+/* Makes one call and compares. */
+static void call_once(struct run *run)
+{
+    next_call(&run->place, run->room.length);
+    alarm(CALL_SECONDS);
+    int64_t got = trial_compile(run->items, run->concepts, run->roles, run->rule.entries, run->rule.length,
+                                run->room.entries, run->room.length);
+    alarm(0);
+    compare_call(run, got);
+}
+
+/* Reads the words of a query. */
+static void read_query(struct run *run)
+{
+    run->query_words = read_number();
+    if (run->query_words > MOST_QUERY_WORDS)
+        stop("a query is too long");
+    for (size_t i = 0; i < run->query_words; i++)
+        run->query[i] = (uint16_t)read_number();
+}
+
+/* Makes calls with rooms of some lengths. */
+static void do_call(struct run *run)
+{
+    run->items = read_number();
+    run->concepts = read_number();
+    run->roles = read_number();
+    read_query(run);
+    for (uint64_t left = read_number(); left > 0; left--) {
+        size_t length = read_number();
+        run->result = read_result();
+        lend_room(run, length);
+        call_once(run);
+    }
+}
+
+/* Carries out all commands and says how many calls they were. */
+static void run_commands(void)
+{
+    static struct run run;
+    char word[NAME_BYTES];
+    watch_signals();
+    while (read_word(word)) {
+        if (strcmp(word, "part") == 0)
+            do_part(&run.place);
+        else if (strcmp(word, "rule") == 0)
+            lend_list(&run.rule);
+        else if (strcmp(word, "call") == 0)
+            do_call(&run);
+        else
+            stop("unknown command");
+    }
+    take_back(&run.rule);
+    take_back(&run.room);
+    printf("done %" PRIu64 "\n", run.place.calls);
+}
+
+/* --- Measuring: the deepest rules, over 128 items, 32 concepts and 16 roles. --- */
+
+enum {
+    STACK_BYTES = 1 << 22,
+    TIMED_CALLS = 2000
+};
+
+/* The kinds of rules and of nodes that are measured. */
+enum { SUB = 0, IN = 6 };
+enum { NAME = 0, NOT = 2, AND = 3, AT_LEAST = 4 };
+
+/* A rule to be measured, and the result due. */
+struct measured {
+    const char *name;
+    uint64_t head, kind, count;  /* `depth` nodes of a kind around a name, on the left of a sub or alone in an in */
+    uint64_t depth;
+    int64_t due;
+};
+
+static const struct measured MEASURED[] = {
+    {"in, no node but a name", IN, NAME, 0, 0, 4 * 3},
+    {"in, 31 nested nots", IN, NOT, 0, 31, 4 * 65},
+    {"in, 31 nested at least 1", IN, AT_LEAST, 1, 31, 4 * 34},
+    {"sub, 30 nested at least 1", SUB, AT_LEAST, 1, 30, 4 * 34 + 1},
+    {"sub, 30 nested nots", SUB, NOT, 0, 30, 4 * 64 + 1},
+    {"sub, 15 nested ands", SUB, AND, 0, 15, 4 * 19 + 1},
+    {"sub, 2 nested at least 6", SUB, AT_LEAST, 6, 2, 4 * 396 + 1},
+    {"sub, 30 nested at least 8, too long", SUB, AT_LEAST, 8, 30, -5},
+};
+
+/* The rule that is measured, where it is written, and what came out. */
+static uint64_t measured_rule[TRIAL_RULE_WORDS];
+static uint16_t measured_room[MOST_QUERY_WORDS];
+static int64_t measured_result;
+
+/* Adds a node to the rule that is measured. */
+static void node(uint64_t kind, uint64_t a, uint64_t b, uint64_t c, uint64_t d)
+{
+    uint64_t words[] = {kind, a, b, c, d};
+    memcpy(measured_rule + 13 + 5 * measured_rule[12], words, sizeof words);
+    measured_rule[12]++;
+}
+
+/* Writes the rule that is to be measured. */
+static void build(const struct measured *measured)
+{
+    uint64_t n = 0;
+    memset(measured_rule, 0, sizeof measured_rule);
+    measured_rule[0] = measured->head;
+    for (; n < measured->depth; n++) {
+        uint64_t next = measured_rule[12] + 1;
+        if (measured->kind == AND) {
+            node(AND, next, next + 1, 0, 0);
+            node(NAME, 0, 0, 0, 0);
+        } else if (measured->kind == AT_LEAST)
+            node(AT_LEAST, measured->count, n % SALTREEVE_ROLES, n % 2, next);
+        else
+            node(NOT, next, 0, 0, 0);
+    }
+    node(NAME, 1, 0, 0, 0);
+    measured_rule[2] = measured->head == SUB ? measured_rule[12] : SALTREEVE_ITEMS - 1;
+    if (measured->head == SUB)
+        node(NAME, 2, 0, 0, 0);
+}
+
+/* Compiles the rule that is measured. */
+static void compile_measured(void)
+{
+    measured_result = trial_compile(SALTREEVE_ITEMS, SALTREEVE_CONCEPTS, SALTREEVE_ROLES, measured_rule,
+                                    TRIAL_RULE_WORDS, measured_room, MOST_QUERY_WORDS);
+}
+
+/* Ends the program if what came out is not what was due. */
+static void require_due(const struct measured *measured)
+{
+    if (measured_result == measured->due)
+        return;
+    printf("%s: expected %" PRId64 ", got %" PRId64 "\n", measured->name, measured->due, measured_result);
+    exit(1);
+}
+
+/* How much of a painted stack is used by compiling the rule that is measured. */
+static size_t stack_used(void)
+{
+    static unsigned char stack[STACK_BYTES];
+    static ucontext_t here, there;
+    size_t untouched = 0;
+    memset(stack, GUARD_BYTE, sizeof stack);
+    if (getcontext(&there) != 0)
+        stop("no context");
+    there.uc_stack.ss_sp = stack;
+    there.uc_stack.ss_size = sizeof stack;
+    there.uc_link = &here;
+    makecontext(&there, compile_measured, 0);
+    if (swapcontext(&here, &there) != 0)
+        stop("no context");
+    while (untouched < sizeof stack && stack[untouched] == GUARD_BYTE)
+        untouched++;
+    return sizeof stack - untouched;
+}
+
+/* Prints how much stack each rule takes. */
+static void run_stacks(void)
+{
+    for (size_t i = 0; i < sizeof MEASURED / sizeof MEASURED[0]; i++) {
+        build(&MEASURED[i]);
+        size_t used = stack_used();
+        require_due(&MEASURED[i]);
+        printf("%-38s %8zu bytes of stack\n", MEASURED[i].name, used);
+    }
+}
+
+/* Seconds since some fixed moment. */
+static double seconds(void)
+{
+    struct timespec now;
+    clock_gettime(CLOCK_MONOTONIC, &now);
+    return (double)now.tv_sec + (double)now.tv_nsec / 1e9;
+}
+
+/* Prints how long each rule takes. */
+static void run_times(void)
+{
+    for (size_t i = 0; i < sizeof MEASURED / sizeof MEASURED[0]; i++) {
+        build(&MEASURED[i]);
+        double start = seconds();
+        for (int call = 0; call < TIMED_CALLS; call++) {
+            compile_measured();
+            require_due(&MEASURED[i]);
+        }
+        printf("%-38s %8.2f microseconds a call\n", MEASURED[i].name, (seconds() - start) * 1e6 / TIMED_CALLS);
+    }
+}
+
+/* Runs the commands or a measurement. */
+int main(int argc, char **argv)
+{
+    if (argc == 2 && strcmp(argv[1], "--stack") == 0)
+        run_stacks();
+    else if (argc == 2 && strcmp(argv[1], "--time") == 0)
+        run_times();
+    else if (argc == 1)
+        run_commands();
+    else {
+        fprintf(stderr, "usage: query_driver [--stack | --time]\n");
+        return 2;
+    }
+    return 0;
+}
