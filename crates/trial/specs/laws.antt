@@ -1,3 +1,4 @@
 -- What is proved of the trial's words and of its promise.
 pub mod Words
 pub mod Trial
+pub mod TrialCompile

@@ -3,12 +3,15 @@ ghost use Prim.Native.Nat.{_+_, _*_, _<_, _≤_};
 ghost use mathlib.Core.Path.{_≡_};
 ghost use lib.ListN.{length};
 ghost use Rattle.rule.specs.Search.{Ready};
-ghost use Rattle.trial.specs.Trial.{Trial, Written, countsOf};
-ghost use Rattle.trial.specs.Words.{chainOf, codeOf, headOf, namedOf, nodeOf, nodesBelow, roleUseAt, ruleWords, secondWord};
+ghost use Rattle.trial.specs.Trial.{Short, Trial, TrialCompile, Written, countsOf, outcomeOf};
+ghost use Rattle.trial.specs.Words.{chainOf, codeOf, headOf, namedOf, nodeOf, nodesBelow, roleUseAt, ruleOf, ruleWords, secondWord};
 use closure::Concept;
 use closure::Counts;
 use closure::Item;
 use closure::Role;
+use query::Outcome;
+use query::Query;
+use query::QueryRefusal;
 use rule::Head;
 use rule::Node;
 use rule::RoleUse;
@@ -151,6 +154,18 @@ fn nodes(given: &[u64]) -> [Slot; 32]
     slots
 }
 
+// The rule that the words say.
+fn rule_of(given: &[u64]) -> Rule
+    requires { ⌜ length (now given) ≡ ruleWords ⌝ }
+    ensures { λ r. ⌜ r ≡ ruleOf (now (given .entry)) ⌝ }
+{
+    Rule {
+        head: head(given),
+        len: given[12] as usize,
+        nodes: nodes(given),
+    }
+}
+
 // The number of findings, or minus the number of refusal.
 fn code(t: Total) -> u64
     ensures { λ r. ⌜ r ≡ codeOf t ⌝ }
@@ -214,15 +229,51 @@ pub extern "C" fn trial_findings(
         concepts,
         roles,
     };
-    let u = Rule {
-        head: head(given),
-        len: given[12] as usize,
-        nodes: nodes(given),
-    };
+    let u = rule_of(given);
     let p = rule::seek::prepare(words, counts, 0, u, out.len() / 2);
     let n = p.write;
     let c = p.search;
     let t = p.answer;
     write(out, n, words, c);
     code(t)
+}
+
+// The answer of compiling as a word.
+fn outcome(r: Outcome) -> u64
+    requires { ⌜ Short r ⌝ }
+    ensures { λ w. ⌜ w ≡ outcomeOf r ⌝ }
+{
+    match r {
+        Outcome::Compiled(n, k) => (4 * n + k) as u64,
+        Outcome::Refused(k) => match k {
+            QueryRefusal::Size => 18446744073709551615,
+            QueryRefusal::Malformed => 18446744073709551613,
+            QueryRefusal::Number => 18446744073709551612,
+            QueryRefusal::Long => 18446744073709551611,
+            QueryRefusal::Room => 18446744073709551610,
+        },
+    }
+}
+
+// Compiles a rule.
+#[no_mangle]
+pub extern "C" fn trial_compile(
+    items: usize,
+    concepts: usize,
+    roles: usize,
+    given: &[u64],
+    room: &mut [u16],
+) -> u64
+    ensures { λ r. ⌜ TrialCompile (countsOf items concepts roles) (now (given .entry)) (now (room .entry)) (now (room .exit)) r ⌝ }
+{
+    if given.len() != 173 {
+        return 18446744073709551517;
+    }
+    let counts = Counts {
+        items,
+        concepts,
+        roles,
+    };
+    let u = rule_of(given);
+    outcome(Query::compile(counts, u, room))
 }

@@ -9,14 +9,8 @@ use Rattle.trial.proofs.trial_findings.Tie as tie
 returns : tie.Need-returns
 returns c = misread (c .if1 .taken) refl
 
-head-requires : tie.Need-head-requires
-head-requires c κs = search needs
-
-shared-slice-read-prepare : tie.Need-shared-slice-read-prepare
-shared-slice-read-prepare c = search needs
-
-nodes-requires : tie.Need-nodes-requires
-nodes-requires c κs = search needs
+rule-of-requires : tie.Need-rule-of-requires
+rule-of-requires c κs = search needs
 
 prepare-requires : tie.Need-prepare-requires
 prepare-requires c κs = search needs
@@ -31,18 +25,14 @@ same-length : tie.Need-same-length
 same-length c = search needs
 
 returns-2 : tie.Need-returns-2
-returns-2 c =
-    rw (c .code .ensures)
-    (trial-by (c .before .before .before .before .before .before .before .before .before .before .if1 .left) (rw (c .before .before .before .before .before .before .before .nodes .ensures, c .before .before .before .before .before .before .before .before .before .head .ensures) at (c .before .before .before .before .before .before .prepare .ensures)) (c .before .before .before .write .ensures))
+returns-2 c = rw (c .code .ensures) (trial-by (c .before .before .before .before .before .before .before .before .if1 .left) (rw (c .before .before .before .before .before .before .before .rule-of .ensures) at (c .before .before .before .before .before .before .prepare .ensures)) (c .before .before .before .write .ensures))
 
 pub trial-findings-spec : {M : Type 1} → statement M
 trial-findings-spec =
     tie.close
     (tie.spec
     returns
-    head-requires
-    shared-slice-read-prepare
-    nodes-requires
+    rule-of-requires
     prepare-requires
     write-requires
     code-requires
