@@ -6,6 +6,7 @@ use Prim.Native.Nat.{ℕ, _<_}
 use lib.ListN.{length}
 use Rattle.row.specs.Bit.{Words}
 use Rattle.closure.specs.declared.Counts.{Counts}
+use Rattle.closure.specs.declared.Concept.{Concept}
 use Rattle.closure.specs.declared.Answer.{Answer}
 use Rattle.closure.specs.declared.Answer.the-variants.{Cells}
 use Rattle.closure.specs.declared.Statement.{Statement}
@@ -21,7 +22,12 @@ use Rattle.rule.specs.declared.Node.the-variants.{Name, AtLeast}
 use Rattle.rule.specs.declared.RoleUse.{RoleUse}
 use Rattle.rule.specs.declared.Rule.{Rule}
 use Rattle.rule.specs.Form.{nodeAt}
+use Rattle.rule.specs.Expr.Expr.{name, many}
 use Rattle.rule.specs.Findings.{Findings}
+use Rattle.query.specs.declared.Outcome.the-variants.{Compiled}
+use Rattle.query.specs.Body.{size}
+use Rattle.query.specs.Translation.{ofExpr}
+use Rattle.query.specs.Promise.{Compiles}
 
 -- two items, nothing else
 abbrev pub twoItems : Counts
@@ -54,6 +60,13 @@ pub record IsAtLeast2 (u : Rule) : Type 0 where
   pub right : nodeAt (u .nodes) 1 ≡ AtLeast 2 (record { role = record { 0 = 0 }; inverse = false }) 2
   pub filler : nodeAt (u .nodes) 2 ≡ Name (record { 0 = 1 })
 
+-- the rule `sub Blade some fits Hub`: node 0 is Blade, node 1 at least 1 fits of node 2, node 2 is Hub; concept 0 is Blade and 1 Hub, role 0 is fits
+pub record IsBladeRule (u : Rule) : Type 0 where
+  pub head : u .head ≡ Sub 0 1
+  pub left : nodeAt (u .nodes) 0 ≡ Name (record { 0 = 0 })
+  pub right : nodeAt (u .nodes) 1 ≡ AtLeast 1 (record { role = record { 0 = 0 }; inverse = false }) 2
+  pub filler : nodeAt (u .nodes) 2 ≡ Name (record { 0 = 1 })
+
 -- all the examples that are marked P so far
 pub record Examples : Type 0 where
   -- R under inverse of R, R links a to b: R links b to a
@@ -76,3 +89,8 @@ pub record Examples : Type 0 where
   -- with d1 same as d2: 1
   pub one-article : {s : List ℕ} {k : ℕ} {u : Rule} {fs : List Finding} → Keeps width threeItems (Stated (sameLinks ∷ twoLinks)) s → IsAtLeast2 u
       → Findings (Holds width threeItems s) threeItems k u fs → length fs ≡ 1
+  -- `sub Blade some fits Hub`: 5 query items
+  pub five-items : {n : Counts} {before after : List ℕ} {items k : ℕ} {u : Rule} → IsBladeRule u → Compiles width n u before after (Compiled items k) → items ≡ 5
+  -- at least 2 R D: 7; 3: 15, for each role, each concept, each term and whatever the next variable
+  pub seven-items : (r : RoleUse) (d : Concept) (t v : ℕ) → size (ofExpr (many 2 r (name d)) t v) ≡ 7
+  pub fifteen-items : (r : RoleUse) (d : Concept) (t v : ℕ) → size (ofExpr (many 3 r (name d)) t v) ≡ 15

@@ -1,4 +1,5 @@
 -- The proof of the examples.
 pub mod Store
 pub mod Rules
+pub mod Queries
 pub mod Proved

@@ -1,6 +1,8 @@
 -- The examples hold. Assumes nothing.
 use Rattle.examples.specs.Examples.{Examples}
 use Rattle.examples.specs.laws.Store.{same-itself, same-two}
+use mathlib.Core.Path.{refl}
+use Rattle.examples.specs.laws.Queries.{five-items}
 use Rattle.examples.specs.laws.Rules.{ref-none, ref-one, two-articles, one-article}
 
 -- all of them
@@ -14,4 +16,7 @@ examples = record {
   ref-one = ref-one;
   two-articles = two-articles;
   one-article = one-article;
+  five-items = five-items;
+  seven-items = λ r d t v. refl;
+  fifteen-items = λ r d t v. refl;
 }
