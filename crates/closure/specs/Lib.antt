@@ -5,6 +5,7 @@ pub mod RoleWord
 pub mod Step
 pub mod Refusal
 pub mod Promise
+pub mod Look
 pub mod Lines
 pub mod Closed
 pub mod laws

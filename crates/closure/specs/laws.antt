@@ -26,3 +26,4 @@ pub mod Pairs
 pub mod Asked
 pub mod Passed
 pub mod Closed
+pub mod Look

@@ -3,8 +3,9 @@ use mathlib.Core.Path.{_≡_}
 use mathlib.Core.Logic.{_⊎_}
 use mathlib.Core.Bool.{Bool, true}
 use mathlib.Core.List.{List}
-use Prim.Native.Nat.{ℕ, _*_, _<_}
-use lib.ListN.{length}
+use Prim.Native.Nat.{ℕ, _+_, _*_, _≤_, _<_}
+use lib.Bits.{bitOr}
+use lib.ListN.{length, getD}
 use Rattle.row.specs.Row.{RowHas}
 
 -- how many words a row has that stands alone
@@ -39,3 +40,19 @@ pub record Without (s t r : List ℕ) : Type 0 where
 pub record Least (r : List ℕ) (x : ℕ) : Type 0 where
   pub found : x < 64 * room → RowHas r x
   pub least : (y : ℕ) → y < x → ¬ (RowHas r y)
+
+-- t, a row that stands alone, has the bits of the row r and of the row of s at `from`, in its first words, and no other
+pub record Together (s : List ℕ) (from width : ℕ) (r t : List ℕ) : Type 0 where
+  pub len : length t ≡ room
+  pub words : (h : ℕ) → h < width → getD t h 0 ≡ bitOr (getD r h 0) (getD s (from + h) 0)
+  pub rest : (h : ℕ) → width ≤ h → getD t h 0 ≡ 0
+
+-- the row r marks exactly the numbers below n that have the property P
+pub record Marks (n : ℕ) (r : List ℕ) (P : ℕ → Type 0) : Type 0 where
+  pub sound : (x : ℕ) → RowHas r x → (x < n) × P x
+  pub whole : (x : ℕ) → x < n → P x → RowHas r x
+
+-- among the numbers below n, the row r marks exactly those that have the property P; what else it marks is left open
+pub record Among (n : ℕ) (r : List ℕ) (P : ℕ → Type 0) : Type 0 where
+  pub sound : (x : ℕ) → x < n → RowHas r x → P x
+  pub whole : (x : ℕ) → x < n → P x → RowHas r x

@@ -11,3 +11,5 @@ pub mod Test
 pub mod Count
 pub mod Below
 pub mod Pick
+pub mod Marks
+pub mod Together

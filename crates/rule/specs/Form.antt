@@ -6,7 +6,6 @@ use Prim.Native.Nat.{ℕ, zero, suc, _+_, _≤_, _<_}
 use lib.Dec.{eqb}
 use lib.ListN.{getD}
 use Rattle.closure.specs.declared.Counts.{Counts}
-use Rattle.closure.specs.declared.Item.{Item}
 use Rattle.closure.specs.Cell.{DeclaredItem, DeclaredConcept, DeclaredRole}
 use Rattle.rule.specs.declared.Node.{Node}
 use Rattle.rule.specs.declared.Node.the-variants.{Name, Top, Not, And, AtLeast, SelfOf, One}
@@ -14,7 +13,6 @@ use Rattle.rule.specs.declared.Slot.{Slot}
 use Rattle.rule.specs.declared.Head.{Head}
 use Rattle.rule.specs.declared.Head.the-variants.{Sub, RoleSub, Chain, Ref, Irr, Dis, In, Rel, NoRel, Same, Differ}
 use Rattle.rule.specs.declared.Rule.{Rule}
-use Rattle.rule.specs.declared.RoleUse.{RoleUse}
 
 -- the limits of a rule
 abbrev pub nodeLimit : ℕ

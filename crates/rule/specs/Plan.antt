@@ -5,6 +5,7 @@ use mathlib.Core.Bool.{Bool, true, false}
 use mathlib.Core.List.{List}
 use Prim.Native.Nat.{ℕ}
 use Rattle.row.specs.Row.{RowHas}
+use Rattle.row.specs.Pick.{Marks}
 use Rattle.closure.specs.declared.Counts.{Counts}
 use Rattle.closure.specs.Cell.{Cell, DeclaredItem}
 use Rattle.rule.specs.declared.Head.{Head}
@@ -17,7 +18,6 @@ use Rattle.rule.specs.declared.Slot.{Slot}
 use Rattle.rule.specs.Expr.{exprOf}
 use Rattle.rule.specs.Meaning.{Linked, HoldsOf}
 use Rattle.rule.specs.Breaks.{BreaksPair}
-use Rattle.rule.specs.Row.{Marks}
 use Rattle.rule.specs.declared.Root.the-variants as root
 use Rattle.rule.specs.declared.Second.the-variants as second
 

@@ -3,7 +3,7 @@ use mathlib.Core.Path.{_≡_}
 use mathlib.Core.List.{List, _++_}
 use Prim.Native.Nat.{ℕ, min}
 use lib.ListN.{length, take, drop}
-use Rattle.logic.specs.Lowest.{Lowest, NoneApplies}
+use Rattle.logic.specs.Lowest.{Lowest}
 use Rattle.closure.specs.declared.Counts.{Counts}
 use Rattle.closure.specs.Layout.{ClosedStore, Holds}
 use Rattle.closure.specs.Refusal.{Sized}

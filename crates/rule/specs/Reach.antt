@@ -1,18 +1,16 @@
 -- Rows of items that paths reach.
 use mathlib.Core.Path.{_≡_}
 use mathlib.Core.List.{List, [], _∷_}
-use Prim.Native.Nat.{ℕ, _+_, _*_, _≤_, _<_}
-use lib.Bits.{bitOr}
-use lib.ListN.{length, getD, take}
+use Prim.Native.Nat.{ℕ, _*_, _<_}
+use lib.ListN.{take}
 use Rattle.row.specs.Row.{RowHas}
-use Rattle.row.specs.Pick.{room}
+use Rattle.row.specs.Pick.{Marks, room}
 use Rattle.closure.specs.declared.Counts.{Counts}
 use Rattle.closure.specs.Cell.{Cell}
 use Rattle.rule.specs.declared.Head.{Head}
 use Rattle.rule.specs.declared.Head.the-variants.{Sub, RoleSub, Chain, Ref, Irr, Dis, In, Rel, NoRel, Same, Differ}
 use Rattle.rule.specs.declared.RoleUse.{RoleUse}
 use Rattle.rule.specs.Breaks.{Path}
-use Rattle.rule.specs.Row.{Marks}
 
 -- an item with the property P links to y by the relation L
 pub record Reached (L : ℕ → ℕ → Type 0) (P : ℕ → Type 0) (y : ℕ) : Type 0 where
@@ -25,12 +23,6 @@ pub record Ends (C : Cell → Type 0) (n : Counts) (rs : List RoleUse) (P : ℕ 
   pub from : ℕ
   pub has : P from
   pub path : Path C n rs from y
-
--- t, a row that stands alone, has the bits of the row r and of the row of s at `from`, in its first words, and no other
-pub record Together (s : List ℕ) (from width : ℕ) (r t : List ℕ) : Type 0 where
-  pub len : length t ≡ room
-  pub words : (h : ℕ) → h < width → getD t h 0 ≡ bitOr (getD r h 0) (getD s (from + h) 0)
-  pub rest : (h : ℕ) → width ≤ h → getD t h 0 ≡ 0
 
 -- r marks what the items below z with the property P link to by L
 pub record Gathered (n : ℕ) (L : ℕ → ℕ → Type 0) (P : ℕ → Type 0) (z : ℕ) (r : List ℕ) : Type 0 where

@@ -1,8 +1,6 @@
--- A row of items as bits in words, and what it marks.
+-- What a node's row marks, from its children's rows.
 use mathlib.Core.Bool.{Bool, true, false}
-use mathlib.Core.List.{List}
-use Prim.Native.Nat.{ℕ, _<_}
-use Rattle.row.specs.Row.{RowHas}
+use Prim.Native.Nat.{ℕ}
 use Rattle.closure.specs.declared.Counts.{Counts}
 use Rattle.closure.specs.Cell.{Cell}
 use Rattle.closure.specs.Cell.Cell.{Same as SameCell, In as InCell}
@@ -10,16 +8,6 @@ use Rattle.rule.specs.declared.RoleUse.{RoleUse}
 use Rattle.rule.specs.declared.Node.{Node}
 use Rattle.rule.specs.declared.Node.the-variants.{Name, Top, Not, And, AtLeast, SelfOf, One}
 use Rattle.rule.specs.Meaning.{Linked, Articles}
-
--- the row r marks exactly the numbers below n that have the property P
-pub record Marks (n : ℕ) (r : List ℕ) (P : ℕ → Type 0) : Type 0 where
-  pub sound : (x : ℕ) → RowHas r x → (x < n) × P x
-  pub whole : (x : ℕ) → x < n → P x → RowHas r x
-
--- among the numbers below n, the row r marks exactly those that have the property P; what else it marks is left open
-pub record Among (n : ℕ) (r : List ℕ) (P : ℕ → Type 0) : Type 0 where
-  pub sound : (x : ℕ) → x < n → RowHas r x → P x
-  pub whole : (x : ℕ) → x < n → P x → RowHas r x
 
 -- b has the property P and is linked from x
 abbrev pub Found : (Cell → Type 0) → RoleUse → (ℕ → Type 0) → ℕ → ℕ → Type 0

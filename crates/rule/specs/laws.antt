@@ -4,8 +4,6 @@ pub mod Tree
 pub mod Findings
 pub mod Refusals
 pub mod Sorted
-pub mod Look
-pub mod Row
 pub mod Articles
 pub mod Holding
 pub mod Short

@@ -4,9 +4,9 @@ ghost use Prim.Native.Nat.{_<_};
 ghost use lib.Dec.{eqb};
 ghost use Rattle.logic.specs.Decides.{Decides};
 ghost use Rattle.row.specs.Row.{RowHas};
+ghost use Rattle.row.specs.Pick.{Marks};
 ghost use Rattle.closure.specs.Layout.{ClosedStore, Holds, Laid};
 ghost use Rattle.rule.specs.Breaks.{BreaksPair};
-ghost use Rattle.rule.specs.Row.{Marks};
 ghost use Rattle.rule.specs.Reach.{EndsOf};
 ghost use Rattle.rule.specs.Plan.{BreaksBy, PlaceBreaks, Planned, RootRow, isPair, leftRoot, rightRoot};
 use crate::Head;
@@ -56,8 +56,8 @@ pub fn breaks_pair(
         Head::In(_, _) => false,
         Head::Rel(u, a, b) => named(x, a, y, b, !crate::look::linked(words, at, counts, u, x, y)),
         Head::NoRel(u, a, b) => named(x, a, y, b, crate::look::linked(words, at, counts, u, x, y)),
-        Head::Same(a, b) => named(x, a, y, b, !crate::look::same(words, at, counts, x, y)),
-        Head::Differ(a, b) => named(x, a, y, b, crate::look::same(words, at, counts, x, y)),
+        Head::Same(a, b) => named(x, a, y, b, !closure::look::same(words, at, counts, x, y)),
+        Head::Differ(a, b) => named(x, a, y, b, closure::look::same(words, at, counts, x, y)),
     }
 }
 

@@ -10,7 +10,6 @@ pub fn articles(words: &[u64], at: Layout, counts: Counts, found: [u64; 8], k: u
     requires { ⌜ Laid at (now words) × ClosedStore (at .width) counts (now words) ⌝ }
     ensures { λ r. ⌜ Decides r (Articles (Holds (at .width) counts (now (words .entry))) counts k (RowHas found)) ⌝ }
 {
-    let width = at.width;
     let mut left = found;
     let mut n: usize = 0;
     while n < k {
@@ -18,7 +17,7 @@ pub fn articles(words: &[u64], at: Layout, counts: Counts, found: [u64; 8], k: u
         if counts.items <= b {
             return false;
         }
-        let same = row::copy::row_of(words, b * width, width);
+        let same = closure::look::same_row(words, at, counts, b);
         left = row::pick::without(&left, &same);
         n += 1;
     }

@@ -1,7 +1,8 @@
 ghost use Prim.Native.Nat.{_<_};
 ghost use Rattle.row.specs.Row.{RowHas};
+ghost use Rattle.row.specs.Pick.{Among, Marks};
 ghost use Rattle.closure.specs.Layout.{ClosedStore, Holds, Laid};
-ghost use Rattle.rule.specs.Row.{Among, Found, Marks};
+ghost use Rattle.rule.specs.Row.{Found};
 use crate::RoleUse;
 use closure::Counts;
 use closure::Layout;
@@ -42,6 +43,7 @@ pub fn found(
     if counts.roles <= role {
         return row::pick::empty();
     }
-    let links = row::copy::row_of(words, crate::look::link_row(at, role, x), at.width);
+    let none = row::pick::empty();
+    let links = closure::look::join_links(words, at, counts, role, x, &none);
     row::pick::meet(&links, p)
 }

@@ -1,10 +1,11 @@
 ghost use Prim.Native.Nat.{_<_};
 ghost use Rattle.logic.specs.Decides.{Decides};
 ghost use Rattle.row.specs.Row.{RowHas};
+ghost use Rattle.row.specs.Pick.{Marks};
 ghost use Rattle.closure.specs.Layout.{ClosedStore, Holds, Laid};
 ghost use Rattle.rule.specs.Expr.{exprAt};
 ghost use Rattle.rule.specs.Meaning.{HoldsOf};
-ghost use Rattle.rule.specs.Row.{Marks, NodeHolds};
+ghost use Rattle.rule.specs.Row.{NodeHolds};
 use crate::Node;
 use crate::Rule;
 use closure::Counts;
@@ -24,7 +25,7 @@ fn test(
     ensures { λ r. ⌜ Decides r (NodeHolds (Holds (at .width) counts (now (words .entry))) counts node (RowHas (now (p .entry))) (RowHas (now (q .entry))) x) ⌝ }
 {
     match node {
-        Node::Name(c) => crate::look::in_concept(words, at, counts, x, c.0),
+        Node::Name(c) => closure::look::in_concept(words, at, counts, x, c.0),
         Node::Top => true,
         Node::Not(_) => !row::pick::has(p, x),
         Node::And(_, _) => row::bit::both(row::pick::has(p, x), row::pick::has(q, x)),
@@ -33,7 +34,7 @@ fn test(
             crate::count::articles(words, at, counts, found, k)
         }
         Node::SelfOf(u) => crate::look::linked(words, at, counts, u, x, x),
-        Node::One(a) => crate::look::same(words, at, counts, x, a.0),
+        Node::One(a) => closure::look::same(words, at, counts, x, a.0),
     }
 }
 

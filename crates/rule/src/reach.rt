@@ -1,33 +1,18 @@
 ghost use mathlib.Core.List.{[], _∷_};
 ghost use mathlib.Core.Bool.{Bool, true, false};
-ghost use Prim.Native.Nat.{_+_, _≤_, _<_};
-ghost use lib.ListN.{length, take};
+ghost use Prim.Native.Nat.{_+_, _<_};
+ghost use lib.ListN.{take};
 ghost use Rattle.logic.specs.Decides.{Decides};
 ghost use Rattle.row.specs.Row.{RowHas};
-ghost use Rattle.row.specs.Pick.{room};
+ghost use Rattle.row.specs.Pick.{Marks};
 ghost use Rattle.closure.specs.Layout.{ClosedStore, Holds, Laid};
 ghost use Rattle.rule.specs.Meaning.{Linked, LinkedWay};
 ghost use Rattle.rule.specs.Breaks.{Path};
-ghost use Rattle.rule.specs.Row.{Marks};
-ghost use Rattle.rule.specs.Reach.{Alone, Gathered, Reached, Together};
+ghost use Rattle.rule.specs.Reach.{Alone, Gathered, Reached};
 use crate::RoleUse;
 use closure::Counts;
 use closure::Layout;
 use closure::Role;
-
-// The row r and the row of `width` words at `from`, together.
-fn together(words: &[u64], from: usize, width: usize, r: &[u64; 8]) -> [u64; 8]
-    requires { ⌜ (from + width ≤ length (now words)) × (width ≤ room) ⌝ }
-    ensures { λ t. ⌜ Together (now (words .entry)) from width (now (r .entry)) t ⌝ }
-{
-    let mut t = [0u64; 8];
-    let mut h = 0;
-    while h < width {
-        t[h] = r[h] | words[from + h];
-        h += 1;
-    }
-    t
-}
 
 // The row r, and the items that the role links z to, if z is in the row p.
 fn with_links(
@@ -43,7 +28,7 @@ fn with_links(
     ensures { λ t. ⌜ Gathered (counts .items) (LinkedWay (Holds (at .width) counts (now (words .entry))) Bool.false role) (RowHas (now (p .entry))) (z + 1) t ⌝ }
 {
     if row::pick::has(p, z) {
-        return together(words, crate::look::link_row(at, role, z), at.width, r);
+        return closure::look::join_links(words, at, counts, role, z, r);
     }
     *r
 }

@@ -14,7 +14,7 @@ use Rattle.row.specs.Bit.{Words, total}
 use Rattle.row.specs.Row.{RowHas}
 use Rattle.row.specs.laws.Bit.{at-bit, at-place, has-lt}
 use Rattle.row.specs.laws.Count.{SetBit, bits-number, total-le}
-use Rattle.row.specs.Pick.{Empty, Least, Without, room}
+use Rattle.row.specs.Pick.{Empty, Least, Marks, Without, room}
 use Rattle.closure.specs.declared.Counts.{Counts}
 use Rattle.closure.specs.Cell.{Cell}
 use Rattle.rule.specs.declared.Finding.{Finding}
@@ -22,7 +22,6 @@ use Rattle.rule.specs.declared.Head.{Head}
 use Rattle.rule.specs.declared.Plan.{Plan}
 use Rattle.rule.specs.declared.Second.{Second}
 use Rattle.rule.specs.Findings.{Before, SecondBefore, findingOf}
-use Rattle.rule.specs.Row.{Marks}
 use Rattle.rule.specs.Reach.{Alone}
 use Rattle.rule.specs.Plan.{PlaceBreaks, PlanBreaks, isPair, placeOf, secondAt, secondIf}
 use Rattle.rule.specs.Cursor.{Advances, Ahead, Begins, BrokenBelow, Gone, Left, Listed, PlanBroken, Sought, Stands, currentOf}

@@ -7,6 +7,7 @@ use Prim.Native.Nat.{ℕ, zero, suc, _-_}
 use native.Mathlib.Omega.{arith}
 use borrow.Author.Tests.{not-true}
 use Rattle.row.specs.Row.{RowHas}
+use Rattle.row.specs.Pick.{Marks}
 use Rattle.closure.specs.declared.Counts.{Counts}
 use Rattle.closure.specs.Cell.{Cell, Obeys, DeclaredItem}
 use Rattle.closure.specs.Cell.Cell.{Same, In, Link}
@@ -20,8 +21,8 @@ use Rattle.rule.specs.Form.{nodeAt}
 use Rattle.rule.specs.Expr.{Expr, build, exprAt}
 use Rattle.rule.specs.Expr.Expr.{name, top, neg, both, many, own, one}
 use Rattle.rule.specs.Meaning.{LinkedWay, Linked, Articles, HoldsOf}
-use Rattle.rule.specs.Row.{Marks, NodeHolds, firstChild, hasFirst, hasSecond, secondChild}
-use Rattle.rule.specs.laws.Row.{marks-iff}
+use Rattle.rule.specs.Row.{NodeHolds, firstChild, hasFirst, hasSecond, secondChild}
+use Rattle.row.specs.laws.Marks.{marks-iff}
 use Rattle.rule.specs.laws.Articles.{articles?}
 
 -- ---- it can be told

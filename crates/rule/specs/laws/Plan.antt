@@ -10,7 +10,7 @@ use lib.Dec.{eqb}
 use Rattle.logic.specs.Decides.{Decides}
 use Rattle.logic.specs.laws.Decides.{decides-iff}
 use Rattle.row.specs.Row.{RowHas}
-use Rattle.row.specs.Pick.{Empty, Marked}
+use Rattle.row.specs.Pick.{Empty, Marked, Marks}
 use Rattle.row.specs.laws.Pick.{decides-both}
 use Rattle.closure.specs.declared.Counts.{Counts}
 use Rattle.closure.specs.Cell.{Cell}
@@ -21,7 +21,6 @@ use Rattle.rule.specs.declared.Rule.{Rule}
 use Rattle.rule.specs.declared.Second.{Second}
 use Rattle.rule.specs.declared.Slot.{Slot}
 use Rattle.rule.specs.Breaks.{Breaks, BreaksAlone, BreaksPair}
-use Rattle.rule.specs.Row.{Marks}
 use Rattle.rule.specs.Plan.{BreaksBy, PlaceBreaks, PlaceIf, PlanBreaks, Planned, RootRow, isPair, leftRoot, placeOf, rightRoot, secondAt, secondIf}
 use Rattle.rule.specs.declared.Second.the-variants as second
 

@@ -1,77 +1,28 @@
 -- Laws of the rows that paths reach. Assumes nothing.
-use mathlib.Core.Path.{_≡_, refl, sym, _∙_, subst}
-use mathlib.Core.Logic.{_⊎_, inl, inr, ⊎-elim}
+use mathlib.Core.Path.{_≡_, refl, sym, subst}
+use mathlib.Core.Logic.{⊎-elim}
 use mathlib.Core.Bool.{true, false}
 use mathlib.Core.List.{List, [], _∷_}
-use Prim.Native.Nat.{ℕ, _+_, _*_, _/_, _%_, _≤_, _<_}
+use Prim.Native.Nat.{ℕ, _+_, _*_, _≤_, _<_}
 use native.Mathlib.Omega.{arith}
-use native.Mathlib.Decide.{ℕ-discrete, decLt}
+use native.Mathlib.Decide.{ℕ-discrete}
 use borrow.Author.Tests.{ltb-true, ltb-false}
-use lib.Bits.{bitOr}
 use lib.Dec.{ltb}
-use lib.ListN.{getD, set, length-set, take, replicate, getD-replicate, length-replicate, List·getD-eq-default}
-use lib.Seq.{getD-set-same, getD-set-other, take-all}
+use lib.ListN.{take}
+use lib.Seq.{take-all}
 use Rattle.logic.specs.Decides.{Decides}
-use Rattle.row.specs.Bit.{Has}
 use Rattle.row.specs.Row.{RowHas}
-use Rattle.row.specs.Pick.{room, Empty, Marked, Least}
-use Rattle.row.specs.laws.Bit.{at-place, moved, zero-none, has-or, or-left, or-right}
+use Rattle.row.specs.Pick.{Among, Empty, Least, Marked, Marks, room}
 use Rattle.closure.specs.declared.Counts.{Counts}
 use Rattle.closure.specs.Cell.{Cell}
 use Rattle.closure.specs.Cell.Cell.{Link}
-use Rattle.closure.specs.Layout.{ClosedStore, Holds, itemLimit, linkAt, widest}
-use Rattle.closure.specs.laws.Parts.{item-lt, link-holds}
+use Rattle.closure.specs.Layout.{ClosedStore, Holds, widest}
+use Rattle.closure.specs.Look.{LinksJoined}
 use Rattle.rule.specs.declared.RoleUse.{RoleUse}
 use Rattle.rule.specs.Meaning.{LinkedWay, Linked}
 use Rattle.rule.specs.Breaks.{Path}
-use Rattle.rule.specs.Row.{Marks, Among, Found}
-use Rattle.rule.specs.Reach.{Reached, Ends, Together, Gathered, Alone}
-
--- ---- a row that takes on a row of the store
-
-zeros : List ℕ
-zeros = replicate room 0
-
-zeros-word : (i : ℕ) → getD zeros i 0 ≡ 0
-unfolding zeros
-zeros-word i = go (decLt i room)
-  where
-    go : Dec (i < room) → getD zeros i 0 ≡ 0
-    go (yes l) = getD-replicate room i 0 0 l
-    go (no l) = List·getD-eq-default zeros 0 {n = i} (omega (arith, length-replicate {A = ℕ} room 0))
-
--- before the first word
-pub together-none : (s r : List ℕ) (from : ℕ) → Together s from 0 r (replicate room 0)
-unfolding zeros
-together-none s r from = record { len = refl; words = λ h l. absurd (omega arith); rest = λ h l. zeros-word h }
-
--- one word more
-pub together-more : {s r t : List ℕ} {from h v : ℕ} → Together s from h r t → h < room → v ≡ bitOr (getD r h 0) (getD s (from + h) 0) → Together s from (h + 1) r (set t h v)
-together-more {s} {r} {t} {from} {h} {v} g l e = record {
-  len = length-set t h v ∙ g .len;
-  words = λ j lj. go j lj (ℕ-discrete j h);
-  rest = λ j lj. getD-set-other t h j v 0 (λ q. omega arith) ∙ g .rest j (omega arith);
-}
-  where
-    go : (j : ℕ) → j < h + 1 → Dec (j ≡ h) → getD (set t h v) j 0 ≡ bitOr (getD r j 0) (getD s (from + j) 0)
-    go j lj (yes p) = rw p (getD-set-same t h v 0 (omega (arith, g .len)) ∙ e)
-    go j lj (no p) = getD-set-other t h j v 0 p ∙ g .words j (omega arith)
-
--- after the last word
-pub together-done : {s r t : List ℕ} {from h width : ℕ} → Together s from h r t → h ≤ width → width ≤ h → Together s from width r t
-together-done g a b = record { len = g .len; words = λ j l. g .words j (omega arith); rest = λ j l. g .rest j (omega arith) }
-
--- its bits
-pub together-has : {s r t : List ℕ} {from width : ℕ} → Together s from width r t → (x : ℕ) → RowHas t x → (x < 64 * width) × (RowHas r x ⊎ Has (getD s (from + x / 64) 0) (x % 64))
-together-has {s} {r} {t} {from} {width} g x h = go (decLt (x / 64) width)
-  where
-    go : Dec (x / 64 < width) → (x < 64 * width) × (RowHas r x ⊎ Has (getD s (from + x / 64) 0) (x % 64))
-    go (yes l) = (omega arith, has-or _ _ _ (moved (g .words (x / 64) l) h))
-    go (no l) = absurd (zero-none (moved (g .rest (x / 64) (omega arith)) h))
-
--- and the other way
-pub has-together : {s r t : List ℕ} {from width : ℕ} → Together s from width r t → (x : ℕ) → x < 64 * width → RowHas r x ⊎ Has (getD s (from + x / 64) 0) (x % 64) → RowHas t x
-has-together {s} {r} {t} {from} {width} g x l d = moved (sym (g .words (x / 64) (omega arith))) (⊎-elim (or-left (getD r (x / 64) 0) _ _) (or-right (getD r (x / 64) 0) _ _) d)
+use Rattle.rule.specs.Row.{Found}
+use Rattle.rule.specs.Reach.{Reached, Ends, Gathered, Alone}
 
 -- ---- the items that the items of a row are linked to
 
@@ -87,30 +38,17 @@ gathered-skip {z = z} {L} {P} {r} g f = record { sound = g .sound; whole = λ x 
     go x y l p q (yes e) = absurd (f (subst P e p))
     go x y l p q (no e) = g .whole x y (omega arith) p q
 
--- an item that is in it adds the row of its links
-pub gathered-more : {W z from : ℕ} {n : Counts} {s r t : List ℕ} {P : ℕ → Type 0} → ClosedStore W n s → (role : ℕ) → role < n .roles → z < n .items
-    → from ≡ linkAt W + (role * itemLimit W + z) * W → Gathered (n .items) (LinkedWay (Holds W n s) false role) P z r → P z → Together s from W r t
-    → Gathered (n .items) (LinkedWay (Holds W n s) false role) P (z + 1) t
-gathered-more {W} {z} {from} {n} {s} {r} {t} {P} k role lr lz e g p d = record {
-  sound = λ y h. let q = together-has d y h in sound y (q .0) (q .1);
-  whole = λ x y l px q. has-together d y (item-lt (k .fits) (q .within .2)) (whole x y l px q (ℕ-discrete x z));
+-- an item that is in it adds its links
+pub gathered-more : {W z : ℕ} {n : Counts} {s r t : List ℕ} {P : ℕ → Type 0} (role : ℕ) → Gathered (n .items) (LinkedWay (Holds W n s) false role) P z r → P z
+    → LinksJoined (Holds W n s) n role z r t → Gathered (n .items) (LinkedWay (Holds W n s) false role) P (z + 1) t
+gathered-more {W} {z} {n} {s} {r} {t} {P} role g p d = record {
+  sound = λ y h. ⊎-elim (g .sound y) (λ c. (c .within .2, record { from = z; has = p; link = c })) (d .sound y h);
+  whole = λ x y l px q. whole x y l px q (ℕ-discrete x z);
 }
   where
-    C : Cell → Type 0
-    C = Holds W n s
-
-    place : (y : ℕ) → from + y / 64 ≡ linkAt W + ((role * itemLimit W + z) * W + y / 64)
-    place y = omega arith
-
-    sound : (y : ℕ) → y < 64 * W → RowHas r y ⊎ Has (getD s (from + y / 64) 0) (y % 64) → (y < n .items) × Reached (LinkedWay C false role) P y
-    sound y l (inl h) = g .sound y h
-    sound y l (inr h) =
-        let c = link-holds k role z y (item-lt (k .fits) lz) l (at-place s (place y) h) in
-        (c .within .2, record { from = z; has = p; link = c })
-
-    whole : (x y : ℕ) → x < z + 1 → P x → C (Link role x y) → Dec (x ≡ z) → RowHas r y ⊎ Has (getD s (from + y / 64) 0) (y % 64)
-    whole x y l px q (yes b) = inr (at-place s (sym (place y)) (subst (λ (a : ℕ). C (Link role a y)) b q .bit))
-    whole x y l px q (no b) = inl (g .whole x y (omega arith) px q)
+    whole : (x y : ℕ) → x < z + 1 → P x → Holds W n s (Link role x y) → Dec (x ≡ z) → RowHas t y
+    whole x y l px q (yes e) = d .links y (subst (λ (a : ℕ). Holds W n s (Link role a y)) e q)
+    whole x y l px q (no e) = d .keeps y (q .within .2) (g .whole x y (omega arith) px q)
 
 -- after the last item
 pub gathered-done : {W i : ℕ} {n : Counts} {s r : List ℕ} {P : ℕ → Type 0} (role : ℕ) → Gathered (n .items) (LinkedWay (Holds W n s) false role) P i r → n .items ≤ i

@@ -1,7 +1,7 @@
 -- Laws of a search as a writer steps it, and of how a listing begins. Assumes nothing.
 use mathlib.Core.Path.{_≡_, refl, sym, ap, _∙_, subst}
 use mathlib.Core.List.{List, [], _∷_, _++_}
-use Prim.Native.Nat.{ℕ, suc, min, _≤_, _<_}
+use Prim.Native.Nat.{ℕ, suc, min, _≤_}
 use native.Mathlib.Omega.{arith}
 use native.Mathlib.Numerals.{add-one}
 use lib.ListN.{length, take, length-append}
@@ -21,10 +21,9 @@ use Rattle.rule.specs.declared.RuleRefusal.{RuleRefusal}
 use Rattle.rule.specs.declared.Search.{Search}
 use Rattle.rule.specs.declared.Total.{Total}
 use Rattle.rule.specs.declared.Total.the-variants.{Count}
-use Rattle.rule.specs.Breaks.{Breaks}
 use Rattle.rule.specs.Cursor.{Advances, Begins, PlanBroken}
 use Rattle.rule.specs.Findings.{Findings}
-use Rattle.rule.specs.Plan.{Planned, PlanBreaks}
+use Rattle.rule.specs.Plan.{Planned}
 use Rattle.rule.specs.Promise.{Judged, RuleFault, Totals, number}
 use Rattle.rule.specs.Promise.Totals.{refused as total-refused, counted}
 use Rattle.rule.specs.Search.{Coming, Met, Opens, Prepares, Ready, Starts, Stepped, Stops, cellsOf, cursorOf, searchAt}
@@ -32,7 +31,7 @@ use Rattle.rule.specs.Search.Opens.{refused as not-opened, judged}
 use Rattle.rule.specs.laws.Cursor.{ahead-current}
 use Rattle.rule.specs.laws.Listed.{findings-listed, listed-iff}
 use Rattle.rule.specs.laws.Plan.{breaks-planned, planned-breaks}
-use Rattle.rule.specs.laws.Sorted.{Ordered, in-order}
+use Rattle.rule.specs.laws.Sorted.{in-order}
 
 -- the first of the findings that come is the one at hand
 pub coming-first : {s : List ℕ} {c : Search} {f : Finding} {fs : List Finding} → Coming s c (f ∷ fs) → f ≡ c .finding

@@ -4,11 +4,10 @@ use Prim.Native.Nat.{_≤_, _-_}
 use native.Mathlib.Omega.{arith}
 use borrow.Author.Needs.{needs}
 use lib.ListN.{length}
-use Rattle.row.specs.Pick.{room}
+use Rattle.row.specs.Pick.{Marks, room}
 use Rattle.closure.specs.Layout.{Holds}
 use Rattle.rule.specs.Breaks.{BreaksPair}
-use Rattle.rule.specs.Row.{Marks}
-use Rattle.rule.specs.laws.Row.{marks-done, marks-more, marks-none}
+use Rattle.row.specs.laws.Marks.{marks-done, marks-more, marks-none}
 use Rattle.rule.proofs.breaking.pair_row.Statement.{statement}
 use Rattle.rule.proofs.breaking.pair_row.Tie as tie
 

@@ -4,19 +4,17 @@ use native.Mathlib.Omega.{arith}
 use borrow.Author.Needs.{needs}
 use Rattle.logic.specs.laws.Decides.{decides-no, decides-yes}
 use Rattle.row.specs.Row.{RowHas}
-use Rattle.row.specs.laws.Rows.{row-within}
-use Rattle.closure.specs.Layout.{Holds, itemLimit}
-use Rattle.closure.specs.laws.Parts.{item-lt}
+use Rattle.closure.specs.Layout.{Holds}
 use Rattle.rule.specs.laws.Articles.{Taken, taken-none, taken-articles}
 use Rattle.rule.specs.laws.Found.{taken-row, taken-all}
 use Rattle.rule.proofs.count.articles.Statement.{statement}
 use Rattle.rule.proofs.count.articles.Tie as tie
 
 abbrev Inv-loop : tie.InvT-loop
-Inv-loop words counts k width left₀ n₀ left n = (n ≤ k) × Taken (Holds width counts words) counts (RowHas left₀) (RowHas left) n
+Inv-loop words at counts k left₀ n₀ left n = (n ≤ k) × Taken (Holds (at .width) counts words) counts (RowHas left₀) (RowHas left) n
 
 abbrev μ-loop : tie.MeasureT-loop
-μ-loop words counts k width left₀ n₀ left n = k - n
+μ-loop words at counts k left₀ n₀ left n = k - n
 
 loop-holds : tie.Need-loop-holds Inv-loop μ-loop
 loop-holds c = (omega arith, taken-none (c .before .pre .1 .closed .obeys))
@@ -27,11 +25,8 @@ least-requires c κs = search needs
 returns : tie.Need-returns Inv-loop μ-loop
 returns c = let start = c .before .before .before .before .before .before .before in decides-no (taken-all (start .pre .1) (start .pre .0 .wide) (c .before .before .before .before .before .loop .inv .1) (c .before .before .least .ensures) (c .if1 .taken) (c .before .before .before .before .loop-test .taken))
 
-mul-row-of : tie.Need-mul-row-of Inv-loop μ-loop
-mul-row-of c = let start = c .before .before .before .before .before .before .before in let w = start .args .at .width in omega (arith, start .pre .0 .long, start .pre .0 .wide, row-within (c .before .before .least .result) (itemLimit w) w (item-lt (start .pre .1 .fits) (omega (arith, c .if1 .left))))
-
-row-of-requires : tie.Need-row-of-requires Inv-loop μ-loop
-row-of-requires c κs = let start = c .before .before .before .before .before .before .before in let w = start .args .at .width in omega (arith, start .pre .0 .long, start .pre .0 .wide, row-within (c .before .before .least .result) (itemLimit w) w (item-lt (start .pre .1 .fits) (omega (arith, c .if1 .left))))
+same-row-requires : tie.Need-same-row-requires Inv-loop μ-loop
+same-row-requires c κs = search needs
 
 without-requires : tie.Need-without-requires Inv-loop μ-loop
 without-requires c κs = search needs
@@ -43,7 +38,7 @@ loop-less : tie.Need-loop-less Inv-loop μ-loop
 loop-less c = omega arith
 
 loop-again : tie.Need-loop-again Inv-loop μ-loop
-loop-again c = let start = c .before .before .before .before .before .before .before .before .before .before .before in (omega arith, taken-row (start .pre .1) (start .pre .0 .wide) (c .before .before .before .before .before .before .before .before .before .loop .inv .1) (c .before .before .before .before .before .before .least .ensures) (omega (arith, c .before .before .before .before .if1 .left)) (c .before .before .before .row-of .ensures) (c .without .ensures))
+loop-again c = let start = c .before .before .before .before .before .before .before .before .before .before .before in (omega arith, taken-row (start .pre .1) (start .pre .0 .wide) (c .before .before .before .before .before .before .before .before .before .loop .inv .1) (c .before .before .before .before .before .before .least .ensures) (omega (arith, c .before .before .before .before .if1 .left)) (c .before .before .before .same-row .ensures) (c .without .ensures))
 
 returns-2 : tie.Need-returns-2 Inv-loop μ-loop
 returns-2 c = decides-yes (taken-articles (c .before .before .before .pre .1 .closed .obeys) (c .before .loop .inv .1) (omega arith))
@@ -57,8 +52,7 @@ articles-spec =
     loop-holds
     least-requires
     returns
-    mul-row-of
-    row-of-requires
+    same-row-requires
     without-requires
     add-n
     loop-less

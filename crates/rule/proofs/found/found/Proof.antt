@@ -2,9 +2,7 @@
 use native.Mathlib.Omega.{arith}
 use borrow.Author.Needs.{needs}
 use Rattle.row.specs.Row.{RowHas}
-use Rattle.closure.specs.laws.Parts.{item-lt, role-lt}
-use Rattle.rule.specs.laws.Look.{link-row-within}
-use Rattle.rule.specs.laws.Row.{marks-among}
+use Rattle.row.specs.laws.Marks.{marks-among}
 use Rattle.rule.specs.laws.Found.{found-none, found-row}
 use Rattle.rule.proofs.found.found.Statement.{statement}
 use Rattle.rule.proofs.found.found.Tie as tie
@@ -21,17 +19,19 @@ empty-requires c κs = search needs
 returns-2 : tie.Need-returns-2
 returns-2 c = let start = c .before .before .before .before .before in found-none (start .pre .1) (start .args .u) (RowHas (start .args .p .now)) (start .args .x) (c .before .before .before .if1 .left) (c .before .if2 .taken) (c .empty .ensures)
 
-link-row-requires : tie.Need-link-row-requires
-link-row-requires c κs = search needs
+empty-requires-2 : tie.Need-empty-requires-2
+empty-requires-2 c κs = search needs
 
-row-of-requires : tie.Need-row-of-requires
-row-of-requires c κs = let start = c .before .before .before .before .before in let w = start .args .at .width in omega (arith, c .link-row .ensures, start .pre .0 .long, start .pre .0 .wide, link-row-within w (start .args .u .role .0) (start .args .x) (role-lt (start .pre .1 .fits) (omega (arith, c .before .if2 .left))) (item-lt (start .pre .1 .fits) (start .pre .2)))
+join-links-requires : tie.Need-join-links-requires
+join-links-requires c κs = search needs
 
 meet-requires : tie.Need-meet-requires
 meet-requires c κs = search needs
 
 returns-3 : tie.Need-returns-3
-returns-3 c = let start = c .before .before .before .before .before .before .before .before in found-row (start .args .u) (start .args .x) (c .before .before .before .before .before .before .if1 .left) (start .pre .1 .fits) (start .pre .0 .wide) (omega (arith, c .before .before .before .before .if2 .left)) (start .pre .2) (c .before .before .before .link-row .ensures) (c .before .before .row-of .ensures) (c .meet .ensures)
+returns-3 c =
+    let start = c .before .before .before .before .before .before .before .before .before in
+    found-row (start .args .u) (start .args .x) (c .before .before .before .before .before .before .before .if1 .left) (omega (arith, start .pre .0 .wide, start .pre .1 .fits .items)) (c .before .before .before .before .empty2 .ensures) (c .before .before .join-links .ensures) (c .meet .ensures)
 
 pub found-spec : {M : Type 1} → statement M
 found-spec =
@@ -41,7 +41,7 @@ found-spec =
     returns
     empty-requires
     returns-2
-    link-row-requires
-    row-of-requires
+    empty-requires-2
+    join-links-requires
     meet-requires
     returns-3)

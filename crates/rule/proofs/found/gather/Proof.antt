@@ -5,11 +5,11 @@ use native.Mathlib.Omega.{arith}
 use borrow.Author.Needs.{needs}
 use lib.ListN.{length}
 use Rattle.row.specs.Row.{RowHas}
-use Rattle.row.specs.Pick.{room}
+use Rattle.row.specs.Pick.{Marks, room}
 use Rattle.row.specs.laws.Pick.{decides-both}
 use Rattle.closure.specs.Layout.{Holds}
-use Rattle.rule.specs.Row.{Found, Marks}
-use Rattle.rule.specs.laws.Row.{marks-done, marks-more, marks-none}
+use Rattle.rule.specs.Row.{Found}
+use Rattle.row.specs.laws.Marks.{marks-done, marks-more, marks-none}
 use Rattle.rule.proofs.found.gather.Statement.{statement}
 use Rattle.rule.proofs.found.gather.Tie as tie
 

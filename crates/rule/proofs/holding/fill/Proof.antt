@@ -5,10 +5,10 @@ use native.Mathlib.Omega.{arith}
 use borrow.Author.Needs.{needs}
 use lib.ListN.{length}
 use Rattle.row.specs.Row.{RowHas}
-use Rattle.row.specs.Pick.{room}
+use Rattle.row.specs.Pick.{Marks, room}
 use Rattle.closure.specs.Layout.{Holds}
-use Rattle.rule.specs.Row.{Marks, NodeHolds}
-use Rattle.rule.specs.laws.Row.{marks-done, marks-more, marks-none}
+use Rattle.rule.specs.Row.{NodeHolds}
+use Rattle.row.specs.laws.Marks.{marks-done, marks-more, marks-none}
 use Rattle.rule.proofs.holding.fill.Statement.{statement}
 use Rattle.rule.proofs.holding.fill.Tie as tie
 

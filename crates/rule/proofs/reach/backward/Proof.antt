@@ -6,12 +6,11 @@ use native.Mathlib.Omega.{arith}
 use borrow.Author.Needs.{needs}
 use lib.ListN.{length}
 use Rattle.row.specs.Row.{RowHas}
-use Rattle.row.specs.Pick.{room}
+use Rattle.row.specs.Pick.{Marks, room}
 use Rattle.closure.specs.Layout.{Holds}
 use Rattle.rule.specs.Meaning.{LinkedWay}
-use Rattle.rule.specs.Row.{Marks}
 use Rattle.rule.specs.Reach.{Reached}
-use Rattle.rule.specs.laws.Row.{marks-done, marks-more, marks-none}
+use Rattle.row.specs.laws.Marks.{marks-done, marks-more, marks-none}
 use Rattle.rule.proofs.reach.backward.Statement.{statement}
 use Rattle.rule.proofs.reach.backward.Tie as tie
 

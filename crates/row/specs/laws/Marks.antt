@@ -7,9 +7,8 @@ use Prim.Native.Nat.{ℕ, _+_, _≤_, _<_}
 use native.Mathlib.Omega.{arith}
 use native.Mathlib.Decide.{ℕ-discrete}
 use Rattle.logic.specs.Decides.{Decides}
 use Rattle.row.specs.Row.{RowHas}
-use Rattle.row.specs.Pick.{Empty, Marked}
-use Rattle.rule.specs.Row.{Marks, Among}
+use Rattle.row.specs.Pick.{Among, Empty, Marked, Marks}
 
 -- an empty row marks all that there is below 0
 pub marks-none : {r : List ℕ} {P : ℕ → Type 0} → Empty r → Marks 0 r P

@@ -1,11 +1,11 @@
--- `rule::look::link_row` meets its contract: no step runs over, since the part of the links is small. Assumes nothing.
+-- `closure::look::link_row` meets its contract: no step runs over, since the part of the links is small. Assumes nothing.
 use native.Mathlib.Omega.{arith}
 use borrow.Author.Needs.{needs}
 use Rattle.row.specs.laws.Rows.{row-within}
 use Rattle.closure.specs.Layout.{itemLimit, roleLimit}
-use Rattle.rule.specs.laws.Look.{link-part-small, link-row-within}
-use Rattle.rule.proofs.look.link_row.Statement.{statement}
-use Rattle.rule.proofs.look.link_row.Tie as tie
+use Rattle.closure.specs.laws.Look.{link-part-small, link-row-within}
+use Rattle.closure.proofs.look.link_row.Statement.{statement}
+use Rattle.closure.proofs.look.link_row.Tie as tie
 
 mul-items : tie.Need-mul-items
 mul-items c = search needs

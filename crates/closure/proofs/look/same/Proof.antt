@@ -1,15 +1,15 @@
--- `rule::look::same` meets its contract: the cell's bit is read where the layout has it. Assumes nothing.
+-- `closure::look::same` meets its contract: the cell's bit is read where the layout has it. Assumes nothing.
 use mathlib.Core.Path.{refl}
 use native.Mathlib.Omega.{arith}
 use borrow.Author.Needs.{needs}
 use Rattle.logic.specs.laws.Decides.{decides-no}
 use Rattle.row.specs.laws.Rows.{row-within}
 use Rattle.closure.specs.Cell.Cell.{Same}
 use Rattle.closure.specs.Layout.{itemLimit}
 use Rattle.closure.specs.laws.Parts.{item-lt}
-use Rattle.rule.specs.laws.Look.{decides-cell}
-use Rattle.rule.proofs.look.same.Statement.{statement}
-use Rattle.rule.proofs.look.same.Tie as tie
+use Rattle.closure.specs.laws.Look.{decides-cell}
+use Rattle.closure.proofs.look.same.Statement.{statement}
+use Rattle.closure.proofs.look.same.Tie as tie
 
 returns : tie.Need-returns
 returns c = decides-no (λ h. omega (arith, c .if1 .taken, h .within))

@@ -1,11 +1,11 @@
--- `rule::look::in_concept` meets its contract: the cell's bit is read where the layout has it. Assumes nothing.
+-- `closure::look::in_concept` meets its contract: the cell's bit is read where the layout has it. Assumes nothing.
 use native.Mathlib.Omega.{arith}
 use borrow.Author.Needs.{needs}
 use Rattle.logic.specs.laws.Decides.{decides-no}
 use Rattle.closure.specs.Cell.Cell.{In}
-use Rattle.rule.specs.laws.Look.{decides-cell}
-use Rattle.rule.proofs.look.in_concept.Statement.{statement}
-use Rattle.rule.proofs.look.in_concept.Tie as tie
+use Rattle.closure.specs.laws.Look.{decides-cell}
+use Rattle.closure.proofs.look.in_concept.Statement.{statement}
+use Rattle.closure.proofs.look.in_concept.Tie as tie
 
 returns : tie.Need-returns
 returns c = decides-no (λ h. omega (arith, c .if1 .taken, h .within))

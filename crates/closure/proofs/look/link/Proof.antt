@@ -1,12 +1,12 @@
--- `rule::look::link` meets its contract: the cell's bit is read where the layout has it. Assumes nothing.
+-- `closure::look::link` meets its contract: the cell's bit is read where the layout has it. Assumes nothing.
 use native.Mathlib.Omega.{arith}
 use borrow.Author.Needs.{needs}
 use Rattle.logic.specs.laws.Decides.{decides-no}
 use Rattle.closure.specs.Cell.Cell.{Link}
 use Rattle.closure.specs.laws.Parts.{item-lt, role-lt}
-use Rattle.rule.specs.laws.Look.{decides-cell, link-part-small, link-row-within}
-use Rattle.rule.proofs.look.link.Statement.{statement}
-use Rattle.rule.proofs.look.link.Tie as tie
+use Rattle.closure.specs.laws.Look.{decides-cell, link-part-small, link-row-within}
+use Rattle.closure.proofs.look.link.Statement.{statement}
+use Rattle.closure.proofs.look.link.Tie as tie
 
 returns : tie.Need-returns
 returns c = decides-no (λ h. omega (arith, c .if1 .taken, h .within))

@@ -1,17 +1,17 @@
--- `rule::reach::together` meets its contract. The loop's invariant is the contract up to `h`. Assumes nothing.
+-- `row::copy::together` meets its contract. The loop's invariant is the contract up to `h`. Assumes nothing.
 use mathlib.Core.Path.{refl}
 use Prim.Native.Nat.{_≤_, _-_}
 use native.Mathlib.Omega.{arith}
-use Rattle.rule.specs.Reach.{Together}
-use Rattle.rule.specs.laws.Reach.{together-none, together-more, together-done}
-use Rattle.rule.proofs.reach.together.Statement.{statement}
-use Rattle.rule.proofs.reach.together.Tie as tie
+use Rattle.row.specs.Pick.{Together}
+use Rattle.row.specs.laws.Together.{together-none, together-more, together-done}
+use Rattle.row.proofs.copy.together.Statement.{statement}
+use Rattle.row.proofs.copy.together.Tie as tie
 
 abbrev Inv-loop : tie.InvT-loop
-Inv-loop words from width r t₀ h₀ t h = (h ≤ width) × Together words from h r t
+Inv-loop s from width r t₀ h₀ t h = (h ≤ width) × Together s from h r t
 
 abbrev μ-loop : tie.MeasureT-loop
-μ-loop words from width r t₀ h₀ t h = width - h
+μ-loop s from width r t₀ h₀ t h = width - h
 
 loop-holds : tie.Need-loop-holds Inv-loop μ-loop
 loop-holds c = (omega arith, together-none _ _ _)

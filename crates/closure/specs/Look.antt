@@ -1,0 +1,14 @@
+-- What is told of cells, row by row.
+use mathlib.Core.Logic.{_⊎_}
+use mathlib.Core.List.{List}
+use Prim.Native.Nat.{ℕ, _<_}
+use Rattle.row.specs.Row.{RowHas}
+use Rattle.closure.specs.declared.Counts.{Counts}
+use Rattle.closure.specs.Cell.{Cell}
+use Rattle.closure.specs.Cell.Cell.{Link}
+
+-- t has the declared items of the row p and the items that the role r links a to, over the cells C, and no other that p has not
+pub record LinksJoined (C : Cell → Type 0) (n : Counts) (r a : ℕ) (p t : List ℕ) : Type 0 where
+  pub sound : (y : ℕ) → RowHas t y → RowHas p y ⊎ C (Link r a y)
+  pub keeps : (y : ℕ) → y < n .items → RowHas p y → RowHas t y
+  pub links : (y : ℕ) → C (Link r a y) → RowHas t y

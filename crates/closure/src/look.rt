@@ -1,0 +1,92 @@
+ghost use mathlib.Core.Path.{_≡_};
+ghost use Prim.Native.Nat.{_+_, _*_, _≤_, _<_};
+ghost use Rattle.logic.specs.Decides.{Decides};
+ghost use Rattle.row.specs.Pick.{Among};
+ghost use Rattle.closure.specs.Cell.Cell.{Same, In, Link};
+ghost use Rattle.closure.specs.Layout.{ClosedStore, Holds, Laid, itemLimit, linkAt, roleLimit, widest};
+ghost use Rattle.closure.specs.Look.{LinksJoined};
+use crate::Counts;
+use crate::Layout;
+
+// Whether the item a is in the concept c. A number that is not declared is in none.
+pub fn in_concept(words: &[u64], at: Layout, counts: Counts, a: usize, c: usize) -> bool
+    requires { ⌜ Laid at (now words) × ClosedStore (at .width) counts (now words) ⌝ }
+    ensures { λ r. ⌜ Decides r (Holds (at .width) counts (now (words .entry)) (In a c)) ⌝ }
+{
+    if counts.items <= a {
+        return false;
+    }
+    if counts.concepts <= c {
+        return false;
+    }
+    let item = at.item;
+    row::bit::has_bit(words[item + a], c as u64)
+}
+
+// Whether the items a and b are the same article.
+pub fn same(words: &[u64], at: Layout, counts: Counts, a: usize, b: usize) -> bool
+    requires { ⌜ Laid at (now words) × ClosedStore (at .width) counts (now words) ⌝ }
+    ensures { λ r. ⌜ Decides r (Holds (at .width) counts (now (words .entry)) (Same a b)) ⌝ }
+{
+    if counts.items <= a {
+        return false;
+    }
+    if counts.items <= b {
+        return false;
+    }
+    let width = at.width;
+    row::bit::has_bit(words[a * width + b / 64], (b % 64) as u64)
+}
+
+// The items that are the same article as b.
+pub fn same_row(words: &[u64], at: Layout, counts: Counts, b: usize) -> [u64; 8]
+    requires { ⌜ Laid at (now words) × ClosedStore (at .width) counts (now words) × (b < counts .items) ⌝ }
+    ensures { λ r. ⌜ Among (counts .items) r (λ x. Holds (at .width) counts (now (words .entry)) (Same b x)) ⌝ }
+{
+    let width = at.width;
+    row::copy::row_of(words, b * width, width)
+}
+
+// Where the row of the items that the role r links a to begins.
+fn link_row(at: Layout, r: usize, a: usize) -> usize
+    requires { ⌜ (at .link ≡ linkAt (at .width)) × (at .width ≤ widest) × (r < roleLimit) × (a < itemLimit (at .width)) ⌝ }
+    ensures { λ i. ⌜ i ≡ linkAt (at .width) + (r * itemLimit (at .width) + a) * at .width ⌝ }
+{
+    let width = at.width;
+    let items = 64 * width;
+    at.link + (r * items + a) * width
+}
+
+// Whether the role r links a to b.
+pub fn link(words: &[u64], at: Layout, counts: Counts, r: usize, a: usize, b: usize) -> bool
+    requires { ⌜ Laid at (now words) × ClosedStore (at .width) counts (now words) ⌝ }
+    ensures { λ t. ⌜ Decides t (Holds (at .width) counts (now (words .entry)) (Link r a b)) ⌝ }
+{
+    if counts.roles <= r {
+        return false;
+    }
+    if counts.items <= a {
+        return false;
+    }
+    if counts.items <= b {
+        return false;
+    }
+    let from = link_row(at, r, a);
+    row::bit::has_bit(words[from + b / 64], (b % 64) as u64)
+}
+
+// The row p, and the items that the role r links a to.
+pub fn join_links(
+    words: &[u64],
+    at: Layout,
+    counts: Counts,
+    r: usize,
+    a: usize,
+    p: &[u64; 8],
+) -> [u64; 8]
+    requires { ⌜ Laid at (now words) × ClosedStore (at .width) counts (now words) × (r < counts .roles) × (a < counts .items) ⌝ }
+    ensures { λ t. ⌜ LinksJoined (Holds (at .width) counts (now (words .entry))) counts r a (now (p .entry)) t ⌝ }
+{
+    let from = link_row(at, r, a);
+    row::copy::together(words, from, at.width, p)
+}

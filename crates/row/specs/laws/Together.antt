@@ -1,0 +1,58 @@
+-- Laws of a row that takes on a row of the list of words. Assumes nothing.
+use mathlib.Core.Path.{_≡_, refl, sym, _∙_}
+use mathlib.Core.Logic.{_⊎_, ⊎-elim}
+use mathlib.Core.List.{List}
+use Prim.Native.Nat.{ℕ, _+_, _*_, _/_, _%_, _≤_, _<_}
+use native.Mathlib.Omega.{arith}
+use native.Mathlib.Decide.{ℕ-discrete, decLt}
+use lib.Bits.{bitOr}
+use lib.ListN.{getD, set, length-set, replicate, getD-replicate, length-replicate, List·getD-eq-default}
+use lib.Seq.{getD-set-same, getD-set-other}
+use Rattle.row.specs.Bit.{Has}
+use Rattle.row.specs.Row.{RowHas}
+use Rattle.row.specs.Pick.{room, Together}
+use Rattle.row.specs.laws.Bit.{moved, zero-none, has-or, or-left, or-right}
+
+zeros : List ℕ
+zeros = replicate room 0
+
+zeros-word : (i : ℕ) → getD zeros i 0 ≡ 0
+unfolding zeros
+zeros-word i = go (decLt i room)
+  where
+    go : Dec (i < room) → getD zeros i 0 ≡ 0
+    go (yes l) = getD-replicate room i 0 0 l
+    go (no l) = List·getD-eq-default zeros 0 {n = i} (omega (arith, length-replicate {A = ℕ} room 0))
+
+-- before the first word
+pub together-none : (s r : List ℕ) (from : ℕ) → Together s from 0 r (replicate room 0)
+unfolding zeros
+together-none s r from = record { len = refl; words = λ h l. absurd (omega arith); rest = λ h l. zeros-word h }
+
+-- one word more
+pub together-more : {s r t : List ℕ} {from h v : ℕ} → Together s from h r t → h < room → v ≡ bitOr (getD r h 0) (getD s (from + h) 0) → Together s from (h + 1) r (set t h v)
+together-more {s} {r} {t} {from} {h} {v} g l e = record {
+  len = length-set t h v ∙ g .len;
+  words = λ j lj. go j lj (ℕ-discrete j h);
+  rest = λ j lj. getD-set-other t h j v 0 (λ q. omega arith) ∙ g .rest j (omega arith);
+}
+  where
+    go : (j : ℕ) → j < h + 1 → Dec (j ≡ h) → getD (set t h v) j 0 ≡ bitOr (getD r j 0) (getD s (from + j) 0)
+    go j lj (yes p) = rw p (getD-set-same t h v 0 (omega (arith, g .len)) ∙ e)
+    go j lj (no p) = getD-set-other t h j v 0 p ∙ g .words j (omega arith)
+
+-- after the last word
+pub together-done : {s r t : List ℕ} {from h width : ℕ} → Together s from h r t → h ≤ width → width ≤ h → Together s from width r t
+together-done g a b = record { len = g .len; words = λ j l. g .words j (omega arith); rest = λ j l. g .rest j (omega arith) }
+
+-- its bits
+pub together-has : {s r t : List ℕ} {from width : ℕ} → Together s from width r t → (x : ℕ) → RowHas t x → (x < 64 * width) × (RowHas r x ⊎ Has (getD s (from + x / 64) 0) (x % 64))
+together-has {s} {r} {t} {from} {width} g x h = go (decLt (x / 64) width)
+  where
+    go : Dec (x / 64 < width) → (x < 64 * width) × (RowHas r x ⊎ Has (getD s (from + x / 64) 0) (x % 64))
+    go (yes l) = (omega arith, has-or _ _ _ (moved (g .words (x / 64) l) h))
+    go (no l) = absurd (zero-none (moved (g .rest (x / 64) (omega arith)) h))
+
+-- and the other way
+pub has-together : {s r t : List ℕ} {from width : ℕ} → Together s from width r t → (x : ℕ) → x < 64 * width → RowHas r x ⊎ Has (getD s (from + x / 64) 0) (x % 64) → RowHas t x
+has-together {s} {r} {t} {from} {width} g x l d = moved (sym (g .words (x / 64) (omega arith))) (⊎-elim (or-left (getD r (x / 64) 0) _ _) (or-right (getD r (x / 64) 0) _ _) d)
