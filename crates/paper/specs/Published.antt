@@ -2,8 +2,8 @@
 use mathlib.Core.Path.{_≡_}
 use mathlib.Core.Logic.{_↔_}
 use mathlib.Core.List.{List}
-use Prim.Native.Nat.{ℕ}
-use lib.ListN.{length}
+use Prim.Native.Nat.{ℕ, _*_}
+use lib.ListN.{length, take}
 use Rattle.logic.specs.Number.{One}
 use Rattle.closure.specs.declared.Counts.{Counts}
 use Rattle.closure.specs.declared.Statement.{Statement}
@@ -19,6 +19,9 @@ use Rattle.rule.specs.Breaks.{Breaks}
 use Rattle.rule.specs.Findings.{Findings, findingOf}
 use Rattle.rule.specs.Form.{RuleWithin, WellFormed}
 use Rattle.rule.specs.Promise.{Judged, Totals}
+use Rattle.query.specs.declared.Outcome.the-variants.{Compiled}
+use Rattle.query.specs.Promise.{Compiles}
+use Rattle.query.specs.Says.{Answer}
 use Rattle.paper.specs.Interpretation.{Interpretation, Entails, Minimal}
 use Rattle.paper.specs.Satisfied.{ICSatisfies, ValueBreaks}
 
@@ -43,3 +46,6 @@ pub record PublishedStore (W : ℕ) (n : Counts) (Given : Cell → Type 0) (s : 
   pub satisfied : {k : ℕ} {u : Rule} {fs : List Finding} → Judged W n u s → Findings (Holds W n s) n k u fs → ICSatisfies n Given u ↔ (length fs ≡ 0)
   -- and so the total that is reported is 0 exactly then
   pub total : {u : Rule} {m : ℕ} → Totals W n u s (Count m) → ICSatisfies n Given u ↔ (m ≡ 0)
+  -- 000, Theorem 1: a compiled rule is IC-satisfied exactly if its query has no answer
+  pub query : {W′ j items k : ℕ} {u : Rule} {fs : List Finding} {before after : List ℕ} → Judged W n u s → Findings (Holds W n s) n j u fs → Compiles W′ n u before after (Compiled items k)
+      → ICSatisfies n Given u ↔ ((xs : List ℕ) → ¬ (Answer (Holds W n s) n k (take (4 * items) after) xs))

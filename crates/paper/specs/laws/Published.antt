@@ -1,5 +1,5 @@
 -- The findings are the published reading. Assumes nothing.
-use mathlib.Core.Path.{_≡_}
+use mathlib.Core.Path.{_≡_, refl}
 use mathlib.Core.Logic.{_↔_, Iff·trans}
 use mathlib.Core.List.{List, [], _∷_}
 use Prim.Native.Nat.{ℕ}
@@ -23,6 +23,9 @@ use Rattle.rule.specs.Breaks.{Breaks}
 use Rattle.rule.specs.Findings.{Findings, findingOf}
 use Rattle.rule.specs.Promise.{Judged, Totals}
 use Rattle.rule.specs.Promise.Totals.{counted}
+use Rattle.query.specs.Demand2.{SameAnswers}
+use Rattle.query.specs.Says.{Answer}
+use Rattle.query.specs.laws.Demand2.{demand-2-query}
 use Rattle.paper.specs.Published.{Published, PublishedStore}
 use Rattle.paper.specs.Satisfied.{ICSatisfies}
 use Rattle.paper.specs.laws.Canonical.{canonical}
@@ -62,6 +65,11 @@ module _ {W : ℕ} {n : Counts} {Given : Cell → Type 0} {s : List ℕ} (k : Ke
   store-total : {u : Rule} {m : ℕ} → Totals W n u s (Count m) → ICSatisfies n Given u ↔ (m ≡ 0)
   store-total (counted d f) = store-satisfied d f
 
+  -- a query with the findings as its answers has none exactly if there are no findings
+  no-answer : {k : ℕ} {ws : List ℕ} {fs : List Finding} → SameAnswers (Holds W n s) n k ws fs → (length fs ≡ 0) ↔ ((xs : List ℕ) → ¬ (Answer (Holds W n s) n k ws xs))
+  no-answer {fs = []} a = (λ e xs z. one-none (a .exactly xs .0 z .1), λ h. refl)
+  no-answer {fs = f ∷ fs} a = (λ e. absurd (omega arith), λ h. let v = a .every f first in absurd (h (v .0) (a .exactly (v .0) .1 (f, first, v .1))))
+
   -- for every store that keeps what follows, however it was built
   pub published-store : PublishedStore W n Given s
   published-store = record {
@@ -70,6 +78,7 @@ module _ {W : ℕ} {n : Counts} {Given : Cell → Type 0} {s : List ℕ} (k : Ke
         (λ o. r .0 (f .sound (findingOf j x y) o .1), λ v. f .whole x y (r .1 v));
     satisfied = store-satisfied;
     total = store-total;
+    query = λ d f c. Iff·trans (store-satisfied d f) (no-answer (demand-2-query (Holds W n s) n c f));
   }
 
 -- and so for a store that is built line by line from a fresh one, and the lines that were accepted
