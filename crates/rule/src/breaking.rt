@@ -25,7 +25,7 @@ fn named(x: usize, a: Item, y: usize, b: Item, on: bool) -> bool
 }
 
 // Whether the rule is broken by the pair of x and y. For a chain, `ends` marks the ends of its paths from x.
-pub fn breaks_pair(
+fn breaks_pair(
     words: &[u64],
     at: Layout,
     counts: Counts,
@@ -62,7 +62,7 @@ pub fn breaks_pair(
 }
 
 // Whether the rule is broken by x alone. The rows left and right are of what its roots hold of.
-pub fn breaks_alone(
+fn breaks_alone(
     words: &[u64],
     at: Layout,
     counts: Counts,

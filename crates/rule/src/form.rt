@@ -8,21 +8,8 @@ use crate::Head;
 use crate::Node;
 use crate::RoleUse;
 use crate::Rule;
-use closure::Concept;
 use closure::Counts;
 use closure::Item;
-
-// The node at a place; past the last place, the name of concept 0.
-pub fn node_at(rule: Rule, i: usize) -> Node
-    ensures { λ r. ⌜ r ≡ nodeAt (rule .nodes) i ⌝ }
-{
-    if i < Rule::NODES {
-        let nodes = rule.nodes;
-        let slot = nodes[i];
-        return slot.node;
-    }
-    Node::Name(Concept(0))
-}
 
 // 1 if the two numbers are equal, and 0 if not.
 fn equal(a: usize, j: usize) -> usize
@@ -52,10 +39,11 @@ fn used(rule: Rule, j: usize) -> usize
     ensures { λ r. ⌜ (r ≡ usesBelow (rule .nodes) j (rule .len)) × (r ≤ nodeLimit + nodeLimit) ⌝ }
 {
     let len = rule.len;
+    let nodes = rule.nodes;
     let mut n: usize = 0;
     let mut i = 0;
     while i < len {
-        n += used_by(node_at(rule, i), j);
+        n += used_by(crate::nodes::node_at(nodes, i), j);
         i += 1;
     }
     n
@@ -153,9 +141,10 @@ fn all_later(rule: Rule) -> bool
     ensures { λ r. ⌜ Decides r ((i : ℕ) → i < rule .len → UsesLater (rule .len) i (nodeAt (rule .nodes) i)) ⌝ }
 {
     let len = rule.len;
+    let nodes = rule.nodes;
     let mut i = 0;
     while i < len {
-        if !later(node_at(rule, i), i, len) {
+        if !later(crate::nodes::node_at(nodes, i), i, len) {
             return false;
         }
         i += 1;
@@ -168,9 +157,10 @@ fn counts_fit(rule: Rule) -> bool
     ensures { λ r. ⌜ Decides r ((i : ℕ) → i < rule .len → CountFits (nodeAt (rule .nodes) i)) ⌝ }
 {
     let len = rule.len;
+    let nodes = rule.nodes;
     let mut i = 0;
     while i < len {
-        if !count_fits(node_at(rule, i)) {
+        if !count_fits(crate::nodes::node_at(nodes, i)) {
             return false;
         }
         i += 1;
@@ -340,9 +330,10 @@ fn nodes_within(counts: Counts, rule: Rule) -> bool
     ensures { λ r. ⌜ Decides r ((i : ℕ) → i < rule .len → NodeWithin counts (nodeAt (rule .nodes) i)) ⌝ }
 {
     let len = rule.len;
+    let nodes = rule.nodes;
     let mut i = 0;
     while i < len {
-        if !node_within(counts, node_at(rule, i)) {
+        if !node_within(counts, crate::nodes::node_at(nodes, i)) {
             return false;
         }
         i += 1;

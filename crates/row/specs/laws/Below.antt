@@ -6,8 +6,8 @@ use Prim.Native.Nat.{ℕ, _+_, _-_, _*_, _/_, _%_, _^_, _≤_, _<_}
 use native.Mathlib.Nat.{lt-of-le-of-lt, zero-div}
 use native.Mathlib.Omega.{arith}
 use native.Mathlib.Decide.{decLt}
-use borrow.Author.Tests.{eqb-true, eqb-false, lt-ltb, le-ltb}
-use lib.Dec.{eqb, ltb}
+use borrow.Author.Tests.{lt-ltb, le-ltb}
+use lib.Dec.{ltb}
 use lib.ListN.{getD}
 use lib.Pow.{shr-shr, shr-le}
 use Rattle.logic.specs.Decides.{Decides}
@@ -15,10 +15,6 @@ use Rattle.logic.specs.laws.Decides.{decides-iff}
 use Rattle.row.specs.Bit.{Has}
 use Rattle.row.specs.Below.{RowBelow, RowsBelow, WordBelow}
 use Rattle.row.specs.laws.Bit.{at-place, has-lt, no-bits}
-
--- a test of two numbers decides what means that they are equal
-pub decides-eqb : (a b : ℕ) {P : Type 0} → (a ≡ b → P) → (P → a ≡ b) → Decides (eqb a b) P
-decides-eqb a b f g = record { holds = λ e. f (eqb-true a b e); fails = λ e p. eqb-false a b e (g p) }
 
 -- a bit of a word that is shifted down
 pub shift-has : (w n : ℕ) {k : ℕ} → Has (w / 2 ^ n) k → Has w (n + k)

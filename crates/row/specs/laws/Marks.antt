@@ -7,6 +7,7 @@ use Prim.Native.Nat.{ℕ, _+_, _≤_, _<_}
 use native.Mathlib.Omega.{arith}
 use native.Mathlib.Decide.{ℕ-discrete}
 use Rattle.logic.specs.Decides.{Decides}
+use Rattle.logic.specs.laws.Decides.{decides-iff}
 use Rattle.row.specs.Row.{RowHas}
 use Rattle.row.specs.Pick.{Among, Empty, Marked, Marks}
 
@@ -41,3 +42,7 @@ marks-iff f g m = record { sound = λ x h. let p = m .sound x h in (p .0, f x (p
 -- a row that marks, among the numbers below n
 pub marks-among : {n : ℕ} {r : List ℕ} {P : ℕ → Type 0} → Marks n r P → Among n r P
 marks-among m = record { sound = λ x l h. m .sound x h .1; whole = m .whole }
+
+-- a number of a row that marks what has the property P
+pub decides-marked : {n x : ℕ} {b : Bool} {r : List ℕ} {P : ℕ → Type 0} → Marks n r P → x < n → Decides b (RowHas r x) → Decides b (P x)
+decides-marked {x = x} m l d = decides-iff (λ h. m .sound x h .1) (λ p. m .whole x l p) d

@@ -1,7 +1,7 @@
 -- Laws of rows that stand alone, as sets of numbers. Assumes nothing.
 use mathlib.Core.Path.{_≡_, refl, sym, ap, _∙_, ap₂}
 use mathlib.Core.Logic.{_⊎_, inl, inr, ⊎-elim}
-use mathlib.Core.Bool.{Bool, not, true, false, _&&_, true≢false, false≢true}
+use mathlib.Core.Bool.{Bool, true}
 use mathlib.Core.List.{List}
 use Prim.Native.Nat.{ℕ, zero, suc, _+_, _*_, _/_, _%_, _^_, _≤_, _<_}
 use native.Mathlib.Nat.{mod-lt, div-one}
@@ -219,13 +219,3 @@ empty-zero = record { len = refl; none = λ x h. zero-none (moved (word (x / 64)
 -- the test of a bit decides
 pub decides-has : {b : Bool} (w k : ℕ) → b ≡ hasb w k → Decides b (Has w k)
 decides-has w k e = record { holds = λ t. hasb-has w k (sym e ∙ t); fails = λ t. hasb-not w k (sym e ∙ t) }
-
--- both of two tests
-pub decides-both : {r a b : Bool} {P Q : Type 0} → Decides a P → Decides b Q → r ≡ (a && b) → Decides r (P × Q)
-decides-both {a = true} d e q = record { holds = λ t. (d .holds refl, e .holds (sym q ∙ t)); fails = λ t x. e .fails (sym q ∙ t) (x .1) }
-decides-both {a = false} d e q = record { holds = λ t. absurd (false≢true (sym q ∙ t)); fails = λ t x. d .fails refl (x .0) }
-
--- a test turned round
-pub decides-not : {a : Bool} {P : Type 0} → Decides a P → Decides (not a) (¬ P)
-decides-not {a = true} d = record { holds = λ t. absurd (false≢true t); fails = λ t f. f (d .holds refl) }
-decides-not {a = false} d = record { holds = λ t. d .fails refl; fails = λ t. absurd (true≢false t) }

@@ -5,13 +5,11 @@ use mathlib.Core.Bool.{Bool, true, false, _&&_}
 use mathlib.Core.List.{List}
 use Prim.Native.Nat.{ℕ, _<_}
 use native.Mathlib.Omega.{arith}
-use borrow.Author.Tests.{eqb-true, eqb-false}
 use lib.Dec.{eqb}
 use Rattle.logic.specs.Decides.{Decides}
-use Rattle.logic.specs.laws.Decides.{decides-iff}
+use Rattle.logic.specs.laws.Decides.{decides-both, decides-eq, decides-iff}
 use Rattle.row.specs.Row.{RowHas}
 use Rattle.row.specs.Pick.{Empty, Marked, Marks}
-use Rattle.row.specs.laws.Pick.{decides-both}
 use Rattle.closure.specs.declared.Counts.{Counts}
 use Rattle.closure.specs.Cell.{Cell}
 use Rattle.rule.specs.declared.Head.{Head}
@@ -25,14 +23,6 @@ use Rattle.rule.specs.Plan.{BreaksBy, PlaceBreaks, PlaceIf, PlanBreaks, 
 use Rattle.rule.specs.declared.Second.the-variants as second
 
 -- ---- tests
-
--- equal numbers
-pub decides-eq : (a b : ℕ) → Decides (eqb a b) (a ≡ b)
-decides-eq a b = record { holds = eqb-true a b; fails = eqb-false a b }
-
--- a number of a row that marks what has the property P
-pub decides-marked : {n x : ℕ} {b : Bool} {r : List ℕ} {P : ℕ → Type 0} → Marks n r P → x < n → Decides b (RowHas r x) → Decides b (P x)
-decides-marked {x = x} m l d = decides-iff (λ h. m .sound x h .1) (λ p. m .whole x l p) d
 
 -- a rule that names its two items
 pub decides-named : {r on : Bool} {P : Type 0} (x a y b : ℕ) → Decides on P → r ≡ (eqb x a && (eqb y b && on)) → Decides r ((x ≡ a) × (y ≡ b) × P)

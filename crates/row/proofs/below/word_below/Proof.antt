@@ -1,8 +1,8 @@
 -- `row::below::word_below` meets its contract. Assumes nothing.
 use borrow.Author.Needs.{needs}
 use native.Mathlib.Omega.{arith}
-use Rattle.logic.specs.laws.Decides.{decides-yes}
-use Rattle.row.specs.laws.Below.{below-all, below-shift, decides-eqb, shift-below}
+use Rattle.logic.specs.laws.Decides.{decides-eqb, decides-yes}
+use Rattle.row.specs.laws.Below.{below-all, below-shift, shift-below}
 use Rattle.row.proofs.below.word_below.Statement.{statement}
 use Rattle.row.proofs.below.word_below.Tie as tie
 

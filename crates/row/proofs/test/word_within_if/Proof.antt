@@ -1,6 +1,5 @@
 -- `row::test::word_within_if` meets its contract. Assumes nothing.
-use Rattle.logic.specs.laws.Decides.{decides-when, decides-off}
-use Rattle.row.specs.laws.Below.{decides-eqb}
+use Rattle.logic.specs.laws.Decides.{decides-eqb, decides-off, decides-when}
 use Rattle.row.specs.laws.Test.{part-word, word-part}
 use Rattle.row.proofs.test.word_within_if.Statement.{statement}
 use Rattle.row.proofs.test.word_within_if.Tie as tie

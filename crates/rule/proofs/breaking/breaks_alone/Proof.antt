@@ -1,8 +1,6 @@
 -- `rule::breaking::breaks_alone` meets its contract: each arm decides its own kind of rule. Assumes nothing.
 use borrow.Author.Needs.{needs}
-use Rattle.logic.specs.laws.Decides.{decides-no}
-use Rattle.row.specs.laws.Pick.{decides-both, decides-not}
-use Rattle.rule.specs.laws.Plan.{decides-eq}
+use Rattle.logic.specs.laws.Decides.{decides-both, decides-eq, decides-no, decides-not}
 use Rattle.rule.proofs.breaking.breaks_alone.Statement.{statement}
 use Rattle.rule.proofs.breaking.breaks_alone.Tie as tie
 

@@ -1,8 +1,8 @@
 -- `rule::breaking::breaks_pair` meets its contract: each arm decides its own kind of rule. Assumes nothing.
 use borrow.Author.Needs.{needs}
-use Rattle.logic.specs.laws.Decides.{decides-no}
-use Rattle.row.specs.laws.Pick.{decides-both, decides-not}
-use Rattle.rule.specs.laws.Plan.{decides-marked, decides-named}
+use Rattle.logic.specs.laws.Decides.{decides-both, decides-no, decides-not}
+use Rattle.row.specs.laws.Marks.{decides-marked}
+use Rattle.rule.specs.laws.Plan.{decides-named}
 use Rattle.rule.proofs.breaking.breaks_pair.Statement.{statement}
 use Rattle.rule.proofs.breaking.breaks_pair.Tie as tie
 

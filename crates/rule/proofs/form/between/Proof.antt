@@ -1,7 +1,6 @@
 -- `rule::form::between` meets its contract. Assumes nothing.
 use native.Mathlib.Omega.{arith}
-use Rattle.logic.specs.laws.Decides.{decides-lt}
-use Rattle.rule.specs.laws.Form.{decides-with, decides-without}
+use Rattle.logic.specs.laws.Decides.{decides-lt, decides-with, decides-without}
 use Rattle.rule.proofs.form.between.Statement.{statement}
 use Rattle.rule.proofs.form.between.Tie as tie
 

@@ -4,16 +4,16 @@ use native.Mathlib.Omega.{arith}
 use borrow.Author.Count.{below-none, below-more}
 use borrow.Author.Needs.{needs}
 use borrow.Author.Tests.{not-true, not-false}
+use Rattle.logic.specs.laws.Decides.{decides-all, decides-not-all}
 use Rattle.rule.specs.Form.{CountFits, nodeAt}
-use Rattle.rule.specs.laws.Form.{decides-all, decides-not-all}
 use Rattle.rule.proofs.form.counts_fit.Statement.{statement}
 use Rattle.rule.proofs.form.counts_fit.Tie as tie
 
 abbrev Inv-loop : tie.InvT-loop
-Inv-loop rule len i₀ i = (i ≤ len) × ((k : ℕ) → k < i → CountFits (nodeAt (rule .nodes) k))
+Inv-loop len nodes i₀ i = (i ≤ len) × ((k : ℕ) → k < i → CountFits (nodeAt nodes k))
 
 abbrev μ-loop : tie.MeasureT-loop
-μ-loop rule len i₀ i = len - i
+μ-loop len nodes i₀ i = len - i
 
 loop-holds : tie.Need-loop-holds Inv-loop μ-loop
 loop-holds c = (omega arith, below-none _)

@@ -1,8 +1,7 @@
 -- `rule::form::head_fits` meets its contract: each arm decides its own kind. Assumes nothing.
 use native.Mathlib.Omega.{arith}
 use borrow.Author.Needs.{needs}
-use Rattle.logic.specs.laws.Decides.{decides-le, decides-lt, decides-yes}
-use Rattle.rule.specs.laws.Form.{decides-with, decides-without}
+use Rattle.logic.specs.laws.Decides.{decides-le, decides-lt, decides-with, decides-without, decides-yes}
 use Rattle.rule.proofs.form.head_fits.Statement.{statement}
 use Rattle.rule.proofs.form.head_fits.Tie as tie
 

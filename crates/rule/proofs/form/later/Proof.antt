@@ -1,7 +1,6 @@
 -- `rule::form::later` meets its contract: each arm decides its own kind. Assumes nothing.
 use borrow.Author.Needs.{needs}
-use Rattle.logic.specs.laws.Decides.{decides-iff, decides-no, decides-yes}
-use Rattle.rule.specs.laws.Form.{decides-with}
+use Rattle.logic.specs.laws.Decides.{decides-iff, decides-no, decides-with, decides-yes}
 use Rattle.rule.proofs.form.later.Statement.{statement}
 use Rattle.rule.proofs.form.later.Tie as tie
 

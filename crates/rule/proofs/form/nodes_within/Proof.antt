@@ -4,16 +4,16 @@ use native.Mathlib.Omega.{arith}
 use borrow.Author.Count.{below-none, below-more}
 use borrow.Author.Needs.{needs}
 use borrow.Author.Tests.{not-true, not-false}
+use Rattle.logic.specs.laws.Decides.{decides-all, decides-not-all}
 use Rattle.rule.specs.Form.{NodeWithin, nodeAt}
-use Rattle.rule.specs.laws.Form.{decides-all, decides-not-all}
 use Rattle.rule.proofs.form.nodes_within.Statement.{statement}
 use Rattle.rule.proofs.form.nodes_within.Tie as tie
 
 abbrev Inv-loop : tie.InvT-loop
-Inv-loop counts rule len i₀ i = (i ≤ len) × ((k : ℕ) → k < i → NodeWithin counts (nodeAt (rule .nodes) k))
+Inv-loop counts len nodes i₀ i = (i ≤ len) × ((k : ℕ) → k < i → NodeWithin counts (nodeAt nodes k))
 
 abbrev μ-loop : tie.MeasureT-loop
-μ-loop counts rule len i₀ i = len - i
+μ-loop counts len nodes i₀ i = len - i
 
 loop-holds : tie.Need-loop-holds Inv-loop μ-loop
 loop-holds c = (omega arith, below-none _)

@@ -4,7 +4,7 @@ use Prim.Native.Nat.{ℕ, _+_, _-_, _≤_, _<_}
 use native.Mathlib.Omega.{arith}
 use borrow.Author.Needs.{needs}
 use borrow.Author.Count.{below-none, below-more}
-use Rattle.rule.specs.laws.Form.{decides-all, decides-not-all}
+use Rattle.logic.specs.laws.Decides.{decides-all, decides-not-all}
 use Rattle.rule.specs.Form.{rootUses, usesBelow}
 use Rattle.rule.proofs.form.once.Statement.{statement}
 use Rattle.rule.proofs.form.once.Tie as tie

@@ -1,6 +1,6 @@
 -- `rule::form::roles_within` meets its contract. Assumes nothing.
 use borrow.Author.Needs.{needs}
-use Rattle.rule.specs.laws.Form.{decides-with, decides-without}
+use Rattle.logic.specs.laws.Decides.{decides-with, decides-without}
 use Rattle.rule.proofs.form.roles_within.Statement.{statement}
 use Rattle.rule.proofs.form.roles_within.Tie as tie
 

@@ -9,10 +9,10 @@ use Rattle.rule.proofs.form.used.Statement.{statement}
 use Rattle.rule.proofs.form.used.Tie as tie
 
 abbrev Inv-loop : tie.InvT-loop
-Inv-loop rule j len n₀ i₀ n i = (i ≤ len) × (n ≡ usesBelow (rule .nodes) j i) × (n ≤ i + i)
+Inv-loop j len nodes n₀ i₀ n i = (i ≤ len) × (n ≡ usesBelow nodes j i) × (n ≤ i + i)
 
 abbrev μ-loop : tie.MeasureT-loop
-μ-loop rule j len n₀ i₀ n i = len - i
+μ-loop j len nodes n₀ i₀ n i = len - i
 
 loop-holds : tie.Need-loop-holds Inv-loop μ-loop
 loop-holds c = (omega arith, sym (usesBelow-none _ _), omega arith)
@@ -36,7 +36,7 @@ loop-again : tie.Need-loop-again Inv-loop μ-loop
 loop-again c = (omega arith, rw (usesBelow-more, ← c .before .node-at .ensures) (cc (c .before .before .before .loop .inv .1, c .used-by .ensures .0)), omega (arith, c .used-by .ensures .1))
 
 returns : tie.Need-returns Inv-loop μ-loop
-returns c = let e : c .before .loop .i ≡ c .before .before .args .rule .len = omega arith in (c .before .loop .inv .1 ∙ ap (usesBelow _ _) e, omega arith)
+returns c = let e : c .before .loop .i ≡ c .before .before .before .args .rule .len = omega arith in (c .before .loop .inv .1 ∙ ap (usesBelow _ _) e, omega arith)
 
 pub used-spec : {M : Type 1} → statement M
 used-spec =

@@ -4,9 +4,9 @@ use Prim.Native.Nat.{_≤_, _-_}
 use native.Mathlib.Omega.{arith}
 use borrow.Author.Needs.{needs}
 use lib.ListN.{length}
+use Rattle.logic.specs.laws.Decides.{decides-both}
 use Rattle.row.specs.Row.{RowHas}
 use Rattle.row.specs.Pick.{Marks, room}
-use Rattle.row.specs.laws.Pick.{decides-both}
 use Rattle.closure.specs.Layout.{Holds}
 use Rattle.rule.specs.Row.{Found}
 use Rattle.row.specs.laws.Marks.{marks-done, marks-more, marks-none}

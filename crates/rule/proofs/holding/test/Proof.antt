@@ -1,7 +1,6 @@
 -- `rule::holding::test` meets its contract: each arm decides its own kind of node. Assumes nothing.
 use borrow.Author.Needs.{needs}
-use Rattle.logic.specs.laws.Decides.{decides-yes}
-use Rattle.row.specs.laws.Pick.{decides-both, decides-not}
+use Rattle.logic.specs.laws.Decides.{decides-both, decides-not, decides-yes}
 use Rattle.rule.specs.laws.Found.{among-articles}
 use Rattle.rule.proofs.holding.test.Statement.{statement}
 use Rattle.rule.proofs.holding.test.Tie as tie
