@@ -6,6 +6,7 @@ import random
 import re
 import subprocess
 import tempfile
+from contextlib import contextmanager
 from pathlib import Path
 
 ROOT = Path(__file__).resolve().parent.parent
@@ -60,6 +61,19 @@ def compile_file(name, result, options=()):
 def planted(name, macro):
     listed = re.search(r"enum \w*fault \{\s*NO_\w+,(.*?)\};", (ROOT / "tests" / name).read_text(), re.S).group(1)
     return [f"-D{macro}={fault}" for fault in re.findall(r"^\s*([A-Z0-9_]+)", listed, re.M)]
+
+
+# Puts something else into a table or a module under a name, for a while.
+@contextmanager
+def replaced(place, name, other):
+    is_table = isinstance(place, dict)
+    sound = place[name] if is_table else getattr(place, name)
+    put = place.__setitem__ if is_table else (lambda key, value: setattr(place, key, value))
+    put(name, other)
+    try:
+        yield
+    finally:
+        put(name, sound)
 
 
 # Links a program.

@@ -8,7 +8,6 @@ findings differ.
 """
 
 import random
-from contextlib import contextmanager
 
 import harness
 import oracle_queries
@@ -130,19 +129,6 @@ def oracle_faults():
     }
 
 
-# Puts something else in a place, for a while.
-@contextmanager
-def planted(place, name, other):
-    is_table = isinstance(place, dict)
-    sound = place[name] if is_table else getattr(place, name)
-    put = place.__setitem__ if is_table else (lambda key, value: setattr(place, key, value))
-    put(name, other)
-    try:
-        yield
-    finally:
-        put(name, sound)
-
-
 # Cells of small stores, and rules over each.
 def draw_stores(seed):
     drawn = [query_cases.draw_small(random.Random(f"{seed} self-test {number}")) for number in range(ANSWERED_STORES)]
@@ -166,7 +152,7 @@ def run_oracle(seed):
     stores, faults = draw_stores(seed), oracle_faults()
     wrong = ["the sound oracle's queries do not say what the rules do"] * found_out(stores)
     for name, fault in faults.items():
-        with planted(*fault):
+        with harness.replaced(*fault):
             wrong += [f"not found out in the oracle: {name}"] * (not found_out(stores))
     for line in wrong:
         print(f"query self-test: seed {seed}: {line}")
