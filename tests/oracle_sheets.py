@@ -33,6 +33,7 @@ MOST_FINDING_LINES = 200
 MOST_NAMES = {"concept": 32, "role": 16, "item": 128}
 
 HEADER = "sheet\t1"
+ALL_ZERO = (0,) * oracle.WORDS
 MONTHS = ("jan", "feb", "mar", "apr", "may", "jun", "jul", "aug", "sep", "oct", "nov", "dec")
 
 # What a sheet comes to. A sheet that is not refused has no line and number; `faults` are all the numbers that
@@ -413,7 +414,7 @@ def cells_after(sheet):
 # "the store is all zero if no earlier line was an accepted statement or rule, and otherwise holds what the
 # earlier lines gave"
 def words_if_refused(sheet):
-    return [0] * oracle.WORDS if sheet.section == 0 else oracle.words_of(cells_after(sheet))
+    return ALL_ZERO if sheet.section == 0 else tuple(oracle.words_of(cells_after(sheet)))
 
 
 # "Findings go by rule, then first item number, then second."
@@ -448,7 +449,7 @@ def refused(sheet, line, faults, words):
 
 # "An accepted sheet without statements leaves a fresh store."
 def words_if_accepted(cells):
-    return oracle.words_of(cells)
+    return tuple(oracle.words_of(cells))
 
 
 # A sheet that is accepted.

@@ -18,6 +18,8 @@ from sheet_book import (ACCEPTED, HEADER, Book, Case, draw_sheet, is_small, line
 from sheet_faults import LINE_NUMBERS, LINE_PAIRS
 from store_cases import require
 
+LONGEST_TEXT = 12814  # bytes: 200 findings of 64 bytes, and a total of seven digits
+
 # --- Sheets that stand ---
 
 WORKED = """
@@ -36,20 +38,58 @@ rule sub Blade some fits Hub
 rule irr fits
 """
 
-# The two worked sheets of document 01 and what they print.
-WORKED_SHEETS = (
-    ("worked-1", WORKED, "finding\t12\tFB-13\ntotal\t1\n"),
-    ("worked-2", WORKED.replace("rule sub", "same FB-12 FB-13\nrule sub"), "total\t0\n"),
+# Declarations for short sheets: the items are not in the order of their names.
+NAMES = """
+sheet 1
+concept C
+concept D
+role r
+role s
+item b
+item a
+item c
+"""
+
+# The two worked sheets of document 01 and more that are found by hand, with what they print.
+PRINTED_SHEETS = (
+    ("worked-1", WORKED, "finding 12 FB-13\ntotal 1"),
+    ("worked-2", WORKED.replace("rule sub", "same FB-12 FB-13\nrule sub"), "total 0"),
+    ("nothing", "sheet 1", "total 0"),
+    ("no-items", "sheet 1\nrole r\nrule ref r\nrule rsub r ~r", "total 0"),
+    ("by-declaration", NAMES + "rule ref r", "finding 9 b\nfinding 9 a\nfinding 9 c\ntotal 3"),
+    ("by-rule", NAMES + "rule in C c\n\nrule in C b", "finding 9 c\nfinding 11 b\ntotal 2"),
+    ("rule-twice", NAMES + "rule in D a\nrule in D a", "finding 9 a\nfinding 10 a\ntotal 2"),
+    ("both-names", NAMES + "same a b\nin a C\nrule sub C D", "finding 11 b\nfinding 11 a\ntotal 2"),
+    ("one-article", NAMES + "same a b\nrel r c a\nrel r c b\nrule sub one c atleast 2 r top", "finding 12 c\ntotal 1"),
+    ("two-articles", NAMES + "rel r c a\nrel r c b\nrule sub one c atleast 2 r top", "total 0"),
+    ("both-ways", NAMES + "rel r a b\nrel r b a\nrule dis r ~r", "finding 11 b a\nfinding 11 a b\ntotal 2"),
+    ("path-once", NAMES + "rel r a b\nrel r a c\nrel s b a\nrel s c a\nrule chain r s r", "finding 13 a a\ntotal 1"),
+    ("as-named", NAMES + "rel r a b\nrule rel r b a\nrule rel ~r b a\nrule norel ~r b a",
+     "finding 10 b a\nfinding 12 b a\ntotal 2"),
+    ("itself", NAMES + "rule differ a a\nrule same a c\nrule same c a", "finding 9 a a\nfinding 10 a c\nfinding 11 c a\ntotal 3"),
+    ("inverse-left", NAMES + "runder ~r s\nrel r a b\nrule rel s b a\nrule rel s a b", "finding 12 a b\ntotal 1"),
+    ("inverse-both", NAMES + "runder ~r ~s\nrel r a b\nrule rel s b a\nrule rel s a b", "finding 11 b a\ntotal 1"),
+    ("step-twice", NAMES + "runder r ~s\nrunder s ~r\nrel r a b\nrule norel r a b\nrule norel r b a", "finding 12 a b\ntotal 1"),
+    ("copied-links", NAMES + "rel r a b\nsame a c\nrule norel r c b\nrule norel r b c", "finding 11 c b\ntotal 1"),
+    ("fits-none", NAMES + "in a C\nin b D\nin c D\nrel r a b\nrule sub C some r D\nrule sub C all r D", "total 0"),
+    ("at-most-0", NAMES + "rel r a b\nrule sub top atmost 0 r top", "finding 10 a\ntotal 1"),
+    ("at-most-1", NAMES + "rel r a b\nrel r a c\nrule sub top atmost 1 r top\nrule sub top atmost 2 r top",
+     "finding 11 a\ntotal 1"),
+    ("short-forms", NAMES + "in a C\nin b D\nrule sub top or C D\nrule sub bot C\nrule sub C bot",
+     "finding 11 c\nfinding 13 a\ntotal 2"),
+    ("self-and-one", NAMES + "rel r c c\nsame a b\nrule sub self ~r bot\nrule sub one a bot",
+     "finding 11 c\nfinding 12 b\nfinding 12 a\ntotal 3"),
 )
 
 
-# The worked sheets; the oracle has to print the same.
-def worked():
-    for name, text, printed in WORKED_SHEETS:
+# These sheets; the oracle has to print the same.
+def printed():
+    for name, text, due in PRINTED_SHEETS:
         sheet = sheet_of(lines_of(text))
-        require(oracle_sheets.judge(sheet).text == printed, f"the oracle fails {name}")
-        yield Case(name, sheet, ACCEPTED)
-        yield Case(f"{name}-no-end", sheet[:-1], ACCEPTED)
+        got = oracle_sheets.judge(sheet).text
+        require(got == sheet_of(lines_of(due)).decode(), f"the oracle fails {name}: {got}")
+        yield Case(f"printed-{name}", sheet, ACCEPTED)
+        yield Case(f"printed-{name}-no-end", sheet[:-1], ACCEPTED)
 
 
 # Sheets drawn that stand.
@@ -70,17 +110,24 @@ def rule_with(rng, book, word):
     return ["rule", "sub", *rng.choice((["top", *shown], [*shown, "bot"], [*shown, book.name("concept")]))]
 
 
-# Each rule word and each operator in many small sheets, so that its meaning shows.
+# A small sheet in which a rule word or an operator comes up.
+def draw_meaning(rng, word):
+    book = Book(rng, 3, 2, rng.choice((2, 3, 4, 5)))
+    lines = draw_sheet(rng, book, rng.choice((4, 8, 14)), 0)
+    links = [book.statement("rel") for _ in range(rng.choice((0, 3, 6)))]
+    rule = rule_with(rng, book, word)
+    return sheet_of([*lines, *links, rule, rule])
+
+
+# Each rule word and each operator in many small sheets, every second one with findings.
 def meanings(seed, rounds):
     rng = part(seed, "meaning")
     for again in range(12 * rounds):
         for word in (*RULES, *OPERATORS):
-            book = Book(rng, 3, 2, rng.choice((2, 3, 4, 5)))
-            lines = draw_sheet(rng, book, rng.choice((4, 8, 14)), 0)
-            links = [book.statement("rel") for _ in range(rng.choice((0, 3, 6)))]
-            rule = rule_with(rng, book, word)
-            if is_small([rule]):
-                yield Case(f"meaning-{word}-{again}", sheet_of([*lines, *links, rule, rule]), ACCEPTED)
+            sheet = draw_meaning(rng, word)
+            while again % 2 == 0 and not oracle_sheets.judge(sheet).findings:
+                sheet = draw_meaning(rng, word)
+            yield Case(f"meaning-{word}-{again}", sheet, ACCEPTED)
 
 
 # Sheets with very many findings, names of full length, and line numbers of five digits.
@@ -102,6 +149,16 @@ def many_findings(seed):
         yield Case(f"merged-{items}", filled, ACCEPTED)
         last = b"rule\tdis\ts\t~s\n"
         yield Case(f"merged-{items}-late", filled + b"\n" * (SHEET_BYTES - len(filled) - len(last)) + last, ACCEPTED)
+
+
+# The sheet with the longest text that there is: all names and numbers as long as they can be.
+def longest_text():
+    names = [f"{number:03}".ljust(NAME_BYTES, "x") for number in range(128)]
+    lines = [HEADER, ["role", "r"], *(["item", name] for name in names), ["rel", "r", names[0], names[0]],
+             *(["same", names[0], name] for name in names[1:])]
+    sheet = sheet_of([*lines, *[[""]] * 10000, *[words("rule dis r ~r")] * MOST_RULES])
+    require(len(oracle_sheets.judge(sheet).text) == LONGEST_TEXT, "another text is the longest")
+    yield Case("many-longest", sheet, ACCEPTED)
 
 
 # Sheets at all limits together.
@@ -179,10 +236,11 @@ def soup(seed, sheets):
 
 # Every case of a run, the fixed ones first.
 def all_cases(seed, sheets, rounds):
-    yield from worked()
+    yield from printed()
     yield from sheet_points.all_cases(seed)
     yield from meanings(seed, rounds)
     yield from many_findings(seed)
+    yield from longest_text()
     yield from sheet_faults.all_cases(seed, rounds)
     yield from full_sheets(seed, rounds)
     for drawn in (standing, damaged, soup):

@@ -406,17 +406,17 @@ def refused_with_findings(sheet, line, faults, words):
 
 # A store left fresh, or as what the lines gave, whatever the lines were.
 def always_given(sheet):
-    return oracle.words_of(sheets.cells_after(sheet))
+    return tuple(oracle.words_of(sheets.cells_after(sheet)))
 
 
 # A store left all zero.
 def always_zero(sheet):
-    return [0] * oracle.WORDS
+    return sheets.ALL_ZERO
 
 
 # A store that rules do not make fresh.
 def rules_not_counted(sheet):
-    return given_sound(sheet) if sheet.statements else [0] * oracle.WORDS
+    return given_sound(sheet) if sheet.statements else sheets.ALL_ZERO
 
 
 # A store left untouched by any refusal.
@@ -426,14 +426,14 @@ def never_touched(sheet):
 
 # A store that 9 clears.
 def cleared_by_9(sheet, line, faults, words):
-    return refused_sound(sheet, line, faults, [0] * oracle.WORDS if words is None else words)
+    return refused_sound(sheet, line, faults, sheets.ALL_ZERO if words is None else words)
 
 
 # A fresh store only where there are statements or rules.
 def fresh_if_used(cells):
     words = words_sound(cells)
     plain = oracle.fresh(words, oracle.Counts(len(cells.same), len(cells.under), len(cells.links)))[1]
-    return [0] * oracle.WORDS if words == plain else words
+    return sheets.ALL_ZERO if words == tuple(plain) else words
 
 
 NAMES = "[A-Za-z0-9._/-]*"

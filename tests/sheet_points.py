@@ -119,12 +119,12 @@ def dates(seed):
     shaped = [f"{day}-{rng.choice(months)}" for day in (*range(1, 32), *(f"{day:02}" for day in range(1, 10)))]
     for month in months:
         shaped += [f"{rng.randint(1, 31)}-{text}" for text in (month, month.upper(), month.lower(), month.swapcase())]
-        shaped += [f"3-{month[0].lower()}{month[1].upper()}{month[2]}", f"03-{month[:2].upper()}{month[2].lower()}"]
+        shaped += [f"31-{month}", f"3-{month[0].lower()}{month[1].upper()}{month[2]}", f"03-{month[:2].upper()}{month[2].lower()}"]
     others = [f"{day}-{rng.choice(months)}" for day in ("0", "00", "32", "33", "40", "99", "003", "031", "100", "", "-3", "x")]
     others += ["MAR-03", "Mar-3", "3-Ma", "3-Marc", "3-March", "3-M", "3-", "3", "3Mar", "3_Mar", "3.Mar", "3/Mar", "3--Mar",
                "3-Mar-", "3-Mar-26", "-3-Mar", "3-Mai", "3-Okt", "3-Dez", "3-Abc", "3-Mrz", "3-JanFeb", "3-anu", "33-Mar",
                "1-1-Jan"]
-    for text, number in [(text, 16) for text in sorted(set(shaped))] + [(text, None) for text in others]:
+    for text, number in [(text, 16) for text in sorted(set(shaped))] + [(text, None) for text in dict.fromkeys(others)]:
         yield Case(f"date-item-{text}", sheet_of([HEADER, ["item", text]]), (2, number) if number else ACCEPTED)
     for text in rng.sample(sorted(set(shaped)), 20):
         yield Case(f"date-concept-{text}", sheet_of([HEADER, ["concept", text]]), ACCEPTED)
