@@ -19,7 +19,7 @@ enum {
     PLACE_BYTES = 256
 };
 
-/* A list lent: its entries, of 2 or 8 bytes each, guard bytes around them, and what they should be after a call. */
+/* A list lent: its entries, of 1, 2 or 8 bytes each, guard bytes around them, and what they should be after a call. */
 struct lent {
     unsigned char *block, *due;
     void *entries;
@@ -35,25 +35,19 @@ struct place {
 /* Where the test is, as text for the case that it ends there. */
 static char place_text[PLACE_BYTES];
 
-/* Writes an entry of a list. */
+/* Writes an entry of a list, the lowest byte first. */
 static void put_entry(unsigned char *list, size_t width, size_t at, uint64_t value)
 {
-    uint16_t narrow = (uint16_t)value;
-    if (width == sizeof value)
-        memcpy(list + at * width, &value, sizeof value);
-    else
-        memcpy(list + at * width, &narrow, sizeof narrow);
+    for (size_t i = 0; i < width; i++)
+        list[at * width + i] = (unsigned char)(value >> 8 * i);
 }
 
 /* Reads an entry of a list. */
 static uint64_t get_entry(const unsigned char *list, size_t width, size_t at)
 {
-    uint64_t value;
-    uint16_t narrow;
-    memcpy(&narrow, list + at * width, sizeof narrow);
-    if (width != sizeof value)
-        return narrow;
-    memcpy(&value, list + at * width, sizeof value);
+    uint64_t value = 0;
+    for (size_t i = 0; i < width; i++)
+        value |= (uint64_t)list[at * width + i] << 8 * i;
     return value;
 }
 
@@ -73,6 +67,12 @@ static void take_back(struct lent *lent)
     free(lent->due);
 }
 
+/* Hands over the entries as they are due. */
+static void fill(struct lent *lent)
+{
+    memcpy(lent->entries, lent->due, lent->length * lent->width);
+}
+
 /* Lends so many entries, all of one value, and takes back what was lent before. */
 static void lend(struct lent *lent, size_t width, size_t length, uint64_t value)
 {
@@ -87,7 +87,7 @@ static void lend(struct lent *lent, size_t width, size_t length, uint64_t value)
     memset(lent->block, GUARD_BYTE, length * width + 2 * GUARD_BYTES);
     for (size_t i = 0; i < length; i++)
         put_entry(lent->due, width, i, value);
-    memcpy(lent->entries, lent->due, length * width);
+    fill(lent);
 }
 
 /* Says what an entry is to be after the next call. */
@@ -97,7 +97,7 @@ static void set_due(struct lent *lent, size_t at, uint64_t value)
 }
 
 /* Lends a list of 64-bit words that is read. */
-static void lend_list(struct lent *lent)
+static inline void lend_list(struct lent *lent)
 {
     lend(lent, sizeof(uint64_t), read_number(), 0);
     for (uint64_t left = read_number(); left > 0; left--) {
@@ -106,7 +106,7 @@ static void lend_list(struct lent *lent)
             stop("an index is too large");
         set_due(lent, index, read_number());
     }
-    memcpy(lent->entries, lent->due, lent->length * lent->width);
+    fill(lent);
 }
 
 /* Whether the guard bytes are as they were. */
@@ -150,13 +150,13 @@ static void do_part(struct place *place)
     fflush(stdout);
 }
 
-/* Notes that the next call comes, with so many words of room. */
+/* Notes that the next call comes, with so many words or bytes of room. */
 static void next_call(struct place *place, size_t room)
 {
     place->calls++;
     place->part_calls++;
     snprintf(place_text, sizeof place_text,
-             "difference in %s %" PRIu64 ", call %" PRIu64 ", which is call %" PRIu64 " of all, room of %zu words\n",
+             "difference in %s %" PRIu64 ", call %" PRIu64 ", which is call %" PRIu64 " of all, room of %zu\n",
              place->part, place->part_number, place->part_calls, place->calls, room);
 }
 

@@ -51,7 +51,7 @@ static uint64_t read_number(void)
 }
 
 /* Reads a result, which may be below 0. */
-static int64_t read_result(void)
+static inline int64_t read_result(void)
 {
     char word[NAME_BYTES], *end = word;
     int64_t number = read_word(word) ? strtoll(word, &end, 10) : 0;
