@@ -4,35 +4,25 @@
 """
 
 import re
-import subprocess
 import sys
-from pathlib import Path
 
-ROOT = Path(__file__).resolve().parent.parent
-BUILD = ROOT / "target" / "tests"
+sys.dont_write_bytecode = True  # keeps the folder of the tests free of build products
+
+import documents
+import harness
 
 
 # The first C block of the text, and the numbers that the sentence after it promises.
 def example(text):
-    code = re.search(r"```c\n(.*?)```", text, re.S)
-    said = re.search(r"It prints ([^.]*)\.", text[code.end(1):])
-    return code.group(1), re.findall(r"-?\d+", said.group(1))
-
-
-# Compiles the example with the library and gives the numbers that it prints.
-def run(code, library):
-    BUILD.mkdir(parents=True, exist_ok=True)
-    source = BUILD / "readme.c"
-    source.write_text(code)
-    program = BUILD / "readme"
-    subprocess.run(["gcc", "-Wall", "-Wextra", "-Werror", f"-I{ROOT / 'include'}", source, library, "-o", program], check=True)
-    return subprocess.run([program], check=True, capture_output=True, text=True).stdout.split()
+    code = next(block.text for block in documents.blocks(text) if block.kind == "c")
+    said = re.search(r"It prints ([^.]*)\.", text[text.index(code) + len(code):])
+    return code, re.findall(r"-?\d+", said.group(1))
 
 
 # Compares the two; the exit status is 0 if they agree.
 def main():
-    code, said = example((ROOT / "README.md").read_text())
-    got = run(code, sys.argv[1])
+    code, said = example((harness.ROOT / "README.md").read_text())
+    got = documents.printed_by_c("readme", code, sys.argv[1]).decode().split()
     if got != said:
         print(f"readme: the example prints {got}, README.md says {said}")
         return 1
