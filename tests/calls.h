@@ -7,7 +7,6 @@
 
 #include "commands.h"
 
-#include <inttypes.h>
 #include <signal.h>
 #include <string.h>
 #include <unistd.h>
@@ -24,12 +23,6 @@ struct lent {
     unsigned char *block, *due;
     void *entries;
     size_t length, width;
-};
-
-/* Where the test is. */
-struct place {
-    char part[NAME_BYTES];
-    uint64_t part_number, part_calls, calls;
 };
 
 /* Where the test is, as text for the case that it ends there. */
@@ -137,17 +130,6 @@ static void print_entries(const char *name, const struct lent *lent)
     }
     if (!guards_stand(lent))
         printf("a byte outside the %s was changed\n", name);
-}
-
-/* Names the next part, and prints the name in case the program is stopped in it. */
-static void do_part(struct place *place)
-{
-    if (!read_word(place->part))
-        stop("a name is missing");
-    place->part_number = read_number();
-    place->part_calls = 0;
-    printf("%s %" PRIu64 "\n", place->part, place->part_number);
-    fflush(stdout);
 }
 
 /* Notes that the next call comes, with so many words or bytes of room. */

@@ -1,10 +1,12 @@
 /*
  * What the drivers share: the commands that they read from standard input, words
- * and decimal numbers parted by blanks, and the guard words around what they lend.
+ * and decimal numbers parted by blanks, where they are in them, and the guard words
+ * around what they lend.
  */
 #ifndef COMMANDS_H
 #define COMMANDS_H
 
+#include <inttypes.h>
 #include <stdint.h>
 #include <stdio.h>
 #include <stdlib.h>
@@ -16,6 +18,12 @@ enum {
 };
 
 static const uint64_t GUARD = 0xA5C3A5C3A5C3A5C3;
+
+/* Where the test is. */
+struct place {
+    char part[NAME_BYTES];
+    uint64_t part_number, part_calls, calls;
+};
 
 /* Ends the program because the commands make no sense. */
 static void stop(const char *why)
@@ -58,6 +66,17 @@ static inline int64_t read_result(void)
     if (end == word || *end != 0)
         stop("a result is missing");
     return number;
+}
+
+/* Names the next part, and prints the name in case the program is stopped in it. */
+static void do_part(struct place *place)
+{
+    if (!read_word(place->part))
+        stop("a name is missing");
+    place->part_number = read_number();
+    place->part_calls = 0;
+    printf("%s %" PRIu64 "\n", place->part, place->part_number);
+    fflush(stdout);
 }
 
 #endif

@@ -52,6 +52,19 @@ def last_said(lines):
     return lines[next((at for at, line in enumerate(lines) if line.startswith("difference")), -1):]
 
 
+# Runs a test or its self-test; 0 if all is well. `calls` says how many calls the commands are; `agree` and `differ`
+# print what came of them.
+def main(chosen, selftest, run, calls, agree, differ):
+    if chosen.selftest:
+        return selftest(chosen.seed)
+    commands, code, lines = run(chosen.driver, chosen.seed, chosen.size)
+    if code == 0 and lines[-1:] == [f"done {calls(commands)}"]:
+        agree(commands, chosen.seed)
+        return 0
+    differ(commands, chosen.seed, code, lines)
+    return 1
+
+
 # Compiles one file of the tests.
 def compile_file(name, result, options=()):
     subprocess.run([*COMPILER, *options, "-c", str(ROOT / "tests" / name), "-o", str(BUILD / result)], check=True)

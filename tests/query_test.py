@@ -56,19 +56,7 @@ def report_agreement(commands, seed):
           f"seed {seed}: all agree")
 
 
-# Runs the test or the self-test; 0 if all is well.
-def main():
-    chosen = harness.arguments("Tests compiled queries against the oracle.", "rules", DEFAULT_RULES)
-    seed = chosen.seed
-    if chosen.selftest:
-        return query_selftest.run(seed)
-    commands, code, lines = run(chosen.driver, seed, chosen.size)
-    if code == 0 and lines[-1:] == [f"done {len(commands.calls)}"]:
-        report_agreement(commands, seed)
-        return 0
-    report_difference(commands, seed, code, lines)
-    return 1
-
-
 if __name__ == "__main__":
-    sys.exit(main())
+    chosen = harness.arguments("Tests compiled queries against the oracle.", "rules", DEFAULT_RULES)
+    sys.exit(harness.main(chosen, query_selftest.run, run, lambda commands: len(commands.calls), report_agreement,
+                          report_difference))

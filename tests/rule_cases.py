@@ -297,6 +297,15 @@ class RuleDrawer(store_cases.Drawer):
 # --- Rules drawn over stores drawn ---
 
 
+# The rounds of a part, each over a store drawn with one of the counts.
+def drawn_rounds(commands, seed, name, rounds, choices):
+    for number in range(rounds):
+        rng = commands.part(seed, name, number)
+        counts = rng.choice(choices)
+        commands.load(draw_words(rng, counts))
+        yield rng, counts
+
+
 # Rules of every kind over one store.
 def drawn_rules(commands, seed, number):
     rng = commands.part(seed, "drawn", number)
@@ -308,10 +317,8 @@ def drawn_rules(commands, seed, number):
 
 # Rules of exactly 32 nodes: long nests, wide trees, and everything between.
 def full_rules(commands, seed, rounds):
-    for number in range(rounds):
-        rng = commands.part(seed, "full-rule", number)
-        counts = rng.choice((Counts(5, 3, 2), Counts(6, 4, 3), Counts(12, 4, 3), Counts(66, 5, 3)))
-        commands.load(draw_words(rng, counts))
+    choices = (Counts(5, 3, 2), Counts(6, 4, 3), Counts(12, 4, 3), Counts(66, 5, 3))
+    for rng, counts in drawn_rounds(commands, seed, "full-rule", rounds, choices):
         for kind in ("sub", "in", "sub"):
             words = RuleDrawer(rng, counts).draft(kind, NODE_LIMIT).words(rng)
             require(commands.ask(rng, counts, words) >= 0, "the oracle refuses a rule of 32 nodes")
@@ -393,10 +400,8 @@ def full_stores(commands, seed):
 
 # Out lists of many lengths, for every kind of rule.
 def out_lists(commands, seed, rounds):
-    for number in range(rounds):
-        rng = commands.part(seed, "out-list", number)
-        counts = rng.choice((Counts(3, 2, 2), Counts(6, 3, 3), Counts(9, 3, 3)))
-        commands.load(draw_words(rng, counts))
+    choices = (Counts(3, 2, 2), Counts(6, 3, 3), Counts(9, 3, 3))
+    for rng, counts in drawn_rounds(commands, seed, "out-list", rounds, choices):
         for kind in RULE_FIELDS:
             words = RuleDrawer(rng, counts).draft(kind, 3).words(rng)
             commands.ask_with(counts, words, all_rooms)
@@ -579,10 +584,8 @@ def spoil_numbers(rng, draft):
 
 # Malformed rules: 3, whether or not all their numbers are declared.
 def malformed_rules(commands, seed, rounds):
-    for number in range(rounds):
-        rng = commands.part(seed, "malformed", number)
-        counts = rng.choice((Counts(2, 1, 1), Counts(4, 3, 2), Counts(7, 5, 5), Counts(66, 9, 4)))
-        commands.load(draw_words(rng, counts))
+    choices = (Counts(2, 1, 1), Counts(4, 3, 2), Counts(7, 5, 5), Counts(66, 9, 4))
+    for rng, counts in drawn_rounds(commands, seed, "malformed", rounds, choices):
         for fault, drafts in MALFORMED:
             for draft in drafts(RuleDrawer(rng, counts)):
                 words = draft.words(rng)
@@ -640,10 +643,8 @@ BAD_NODES = [["name", 2**64 - 1], ["at least", 9, 16, 1, 0], ["not", 0], ["one",
 
 # What lies past a chain's path and past the last node is not asked for.
 def numbers_not_asked(commands, seed, rounds):
-    for number in range(rounds):
-        rng = commands.part(seed, "not-asked", number)
-        counts = rng.choice((Counts(2, 1, 1), Counts(4, 3, 2), Counts(6, 4, 3)))
-        commands.load(draw_words(rng, counts))
+    choices = (Counts(2, 1, 1), Counts(4, 3, 2), Counts(6, 4, 3))
+    for rng, counts in drawn_rounds(commands, seed, "not-asked", rounds, choices):
         for kind in RULE_FIELDS:
             draft = RuleDrawer(rng, counts).draft(kind, 4)
             draft.count = len(draft.nodes)

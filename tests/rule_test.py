@@ -101,19 +101,7 @@ def report_agreement(commands, seed):
           f"by 4: {results[-4]}, for their length: {results[-99]}), seed {seed}: all agree")
 
 
-# Runs the test or the self-test; 0 if all is well.
-def main():
-    chosen = harness.arguments("Tests rules by number against the oracle.", "rules", DEFAULT_RULES)
-    seed = chosen.seed
-    if chosen.selftest:
-        return rule_selftest.run(seed)
-    commands, code, lines = run(chosen.driver, seed, chosen.size)
-    if code == 0 and lines[-1:] == [f"done {len(commands.calls)}"]:
-        report_agreement(commands, seed)
-        return 0
-    report_difference(commands, seed, code, lines)
-    return 1
-
-
 if __name__ == "__main__":
-    sys.exit(main())
+    chosen = harness.arguments("Tests rules by number against the oracle.", "rules", DEFAULT_RULES)
+    sys.exit(harness.main(chosen, rule_selftest.run, run, lambda commands: len(commands.calls), report_agreement,
+                          report_difference))

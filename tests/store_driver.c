@@ -25,7 +25,6 @@
 #include "commands.h"
 #include "saltreeve.h"
 
-#include <inttypes.h>
 #include <stdio.h>
 #include <stdlib.h>
 #include <string.h>
@@ -49,8 +48,7 @@ struct run {
     int64_t sum;      /* of the counts since the store was fresh or loaded */
     uint64_t kept[MOST_WORDS];
     int64_t kept_sum;
-    char part[NAME_BYTES];
-    uint64_t part_number, part_calls, calls;
+    struct place place;
 };
 
 /* Reads a list of words into the expected store. */
@@ -102,7 +100,8 @@ static int64_t make_call(const struct call *call, uint64_t *w, size_t length)
 /* Says where the first difference is. */
 static void print_place(const struct run *run)
 {
-    printf("difference in %s %" PRIu64 ", call %" PRIu64 "\n", run->part, run->part_number, run->part_calls);
+    printf("difference in %s %" PRIu64 ", call %" PRIu64 "\n", run->place.part, run->place.part_number,
+           run->place.part_calls);
 }
 
 /* Says which call it was. */
@@ -147,8 +146,8 @@ static void do_call(struct run *run)
     struct call call = read_call();
     int64_t expected = read_result();
     read_list(run);
-    run->calls++;
-    run->part_calls++;
+    run->place.calls++;
+    run->place.part_calls++;
     alarm(CALL_SECONDS);
     int64_t got = make_call(&call, run->words, run->length);
     alarm(0);
@@ -157,17 +156,6 @@ static void do_call(struct run *run)
         run->sum = 0;
     if (got > 0)
         run->sum += got;
-}
-
-/* Names the next part, and prints the name in case the program is stopped in it. */
-static void do_part(struct run *run)
-{
-    if (!read_word(run->part))
-        stop("a name is missing");
-    run->part_number = read_number();
-    run->part_calls = 0;
-    printf("%s %" PRIu64 "\n", run->part, run->part_number);
-    fflush(stdout);
 }
 
 /* Lends a new store. */
@@ -224,7 +212,7 @@ static void run_commands(void)
     char word[NAME_BYTES];
     while (read_word(word)) {
         if (strcmp(word, "part") == 0)
-            do_part(&run);
+            do_part(&run.place);
         else if (strcmp(word, "load") == 0)
             do_load(&run);
         else if (strcmp(word, "flip") == 0)
@@ -239,7 +227,7 @@ static void run_commands(void)
             stop("unknown command");
     }
     free(run.block);
-    printf("done %" PRIu64 "\n", run.calls);
+    printf("done %" PRIu64 "\n", run.place.calls);
 }
 
 /* --- Timing: always 128 items, 32 concepts and 16 roles. --- */

@@ -26,7 +26,7 @@ def run(driver, seed, sequences):
 
 
 # Prints where the driver stopped and what it said.
-def report_difference(seed, code, lines):
+def report_difference(_, seed, code, lines):
     print(f"store: seed {seed}: the driver ended with {code}; it said last:")
     for line in harness.last_said(lines):
         print(f"  {line}")
@@ -41,19 +41,7 @@ def report_agreement(commands, seed):
           f"{commands.damaged} damaged stores, seed {seed}: all agree")
 
 
-# Runs the test or the self-test; 0 if all is well.
-def main():
-    chosen = harness.arguments("Tests the library's store against the oracle.", "sequences", DEFAULT_SEQUENCES)
-    seed = chosen.seed
-    if chosen.selftest:
-        return store_selftest.run(seed)
-    commands, code, lines = run(chosen.driver, seed, chosen.size)
-    if code == 0 and lines[-1:] == [f"done {commands.calls}"]:
-        report_agreement(commands, seed)
-        return 0
-    report_difference(seed, code, lines)
-    return 1
-
-
 if __name__ == "__main__":
-    sys.exit(main())
+    chosen = harness.arguments("Tests the library's store against the oracle.", "sequences", DEFAULT_SEQUENCES)
+    sys.exit(harness.main(chosen, store_selftest.run, run, lambda commands: commands.calls, report_agreement,
+                          report_difference))
