@@ -15,7 +15,7 @@ import sheet_points
 from oracle_sheets import DECLARATIONS, MOST_RULES, NAME_BYTES, OPERATORS, RULES, SHEET_BYTES, STATEMENTS
 from sheet_book import (ACCEPTED, HEADER, Book, Case, draw_sheet, is_small, lines_of, named, part, sheet_of, small_book,
                         words)
-from sheet_faults import LINE_NUMBERS, LINE_PAIRS
+from sheet_faults import HIDING, LINE_NUMBERS, LINE_PAIRS
 from store_cases import require
 
 LONGEST_TEXT = 12814  # bytes: 200 findings of 64 bytes, and a total of seven digits
@@ -130,7 +130,7 @@ def meanings(seed, rounds):
             yield Case(f"meaning-{word}-{again}", sheet, ACCEPTED)
 
 
-# Sheets with very many findings, names of full length, and line numbers of five digits.
+# Sheets with many findings, about 200 or far more, and names of full length.
 def many_findings(seed):
     rng = part(seed, "many")
     for items in (13, 14, 15, 99, 100, 101, 127, 128):
@@ -142,12 +142,16 @@ def many_findings(seed):
             links = [["rel", "s", rng.choice(names), rng.choice(names)] for _ in range(items)]
             lines = [*head, *links, *(fields[rule] for rule in rules)]
             yield Case(f"many-{items}-{at}", sheet_of(lines), ACCEPTED)
+
+
+# Sheets of items that are all the same, so that every pair is found; and a rule as late as there can be one.
+def merged_items():
+    last = b"rule\tdis\ts\t~s\n"
     for items in (14, 15, 128):
         merged = [["rel", "s", "n0", "n0"], *(["same", "n0", f"n{number}"] for number in range(1, items))]
         lines = [HEADER, ["role", "r"], ["role", "s"], *named("item", items), *merged, *[words("rule rsub s r")] * 3]
         filled = sheet_of(lines)
         yield Case(f"merged-{items}", filled, ACCEPTED)
-        last = b"rule\tdis\ts\t~s\n"
         yield Case(f"merged-{items}-late", filled + b"\n" * (SHEET_BYTES - len(filled) - len(last)) + last, ACCEPTED)
 
 
@@ -240,6 +244,7 @@ def all_cases(seed, sheets, rounds):
     yield from sheet_points.all_cases(seed)
     yield from meanings(seed, rounds)
     yield from many_findings(seed)
+    yield from merged_items()
     yield from longest_text()
     yield from sheet_faults.all_cases(seed, rounds)
     yield from full_sheets(seed, rounds)
@@ -260,15 +265,16 @@ def judged_cases(seed, sheets, rounds):
 
 # A case made for a pair of numbers has both, as far as the lower one does not hide the other.
 def require_pair(case, outcome):
-    kind, *numbers = case.name.split("-")
-    if kind == "pair" and not {"10", "12", "14"} & set(numbers[:2]):
-        require(outcome.faults == {int(number) for number in numbers[:2]}, f"{case.name}: not this pair: {outcome.faults}")
+    if case.name.startswith("pair-"):
+        pair = {int(number) for number in case.name.split("-")[1:3]}
+        require(min(pair) in HIDING or outcome.faults == pair, f"{case.name}: not this pair: {outcome.faults}")
 
 
 # The kinds of cases that a run has to have: each number, each pair on a line in both orders, each pair of lines.
 def classes_due():
     due = [f"number {number}" for number in (*range(9, 22), None)]
     due += [f"pair-{first}-{second}" for low, high in LINE_PAIRS for first, second in ((low, high), (high, low))]
+    due += [f"hidden-{high}-by-{low}-{low}" for low, high in LINE_PAIRS if low in HIDING]
     due += [f"lines-{earlier}-{later}" for earlier in (*LINE_NUMBERS, 11) for later in LINE_NUMBERS]
     due += [f"first-is-{number}" for number in LINE_NUMBERS] + [f"sheet-9-{number}" for number in LINE_NUMBERS]
     due += [f"findings of {word}" for word in RULES] + [f"finding through {word}" for word in OPERATORS]

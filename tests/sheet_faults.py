@@ -161,6 +161,9 @@ SECTIONS_OF = {
 }
 LINE_NUMBERS = tuple(SECTIONS_OF)
 
+# Numbers that hide the higher ones of their line.
+HIDING = (10, 12, 14)
+
 # Numbers that cannot both apply: a declaration has one name, and a date-shaped one is never declared.
 NEVER_BOTH = ({15, 16}, {15, 17}, {16, 17})
 
@@ -187,7 +190,11 @@ class Fault:
         self.kind = "item" if 16 in numbers else rng.choice(list(DECLARATIONS))
         is_full = 18 in numbers and section == "declaration"
         self.book = full_book(rng, self.kind) if is_full else small_book(rng)
-        self.line = self.spoiled(self.draw())
+        self.hidden = None  # the line before the last of 14, 12 and 10 came to it
+        self.line = self.draw()
+        for number, spoil in ((14, of_wrong_shape), (12, of_unknown_word), (10, with_bad_byte)):
+            if number in numbers:
+                self.hidden, self.line = self.line, spoil(rng, self.line)
 
     # The line without 10, 12 and 14.
     def draw(self):
@@ -197,12 +204,6 @@ class Fault:
         if self.section == "statement":
             return bad_statement_line(self.rng, self.book, numbers)
         return bad_declaration_line(self.rng, self.book, numbers, self.kind)
-
-    # The line with 14, 12 and 10 where they are wanted.
-    def spoiled(self, line):
-        line = of_wrong_shape(self.rng, line) if 14 in self.numbers else line
-        line = of_unknown_word(self.rng, line) if 12 in self.numbers else line
-        return with_bad_byte(self.rng, line) if 10 in self.numbers else line
 
     # The lines of a sheet that come before the faulty one.
     def before(self):
@@ -223,24 +224,29 @@ class Fault:
         return [self.book.line(self.rng.choice(sections)) for _ in range(self.rng.randint(0, most))]
 
 
-# Whether a line is not empty, and not too long unless it should be.
-def fits(fault):
-    return fault.line != [""] and (10 in fault.numbers or len("\t".join(fault.line)) <= LINE_BYTES)
+# Whether a line is not empty and not too long.
+def fits(line):
+    return line != [""] and len("\t".join(line)) <= LINE_BYTES
 
 
 # Draws a faulty line.
 def draw_fault(rng, numbers, sections=None):
     while True:
         fault = Fault(rng, numbers, rng.choice(sections or sections_for(numbers)))
-        if fits(fault):
+        if fits(fault.line) or 10 in numbers:
             return fault
 
 
-# A sheet with one faulty line.
-def faulty_case(rng, name, fault, later=()):
+# A sheet with a line in the place of a faulty one, and the number that is due for it.
+def case_with(rng, name, fault, line, number, later=()):
     before = fault.before()
-    lines, number = with_empty_lines(rng, [*before, fault.line, *fault.after(3), *later, *fault.after(2)], len(before))
-    return Case(name, sheet_of(lines, rng.choice(("\n", "\n", ""))), (number, min(fault.numbers)))
+    lines, at = with_empty_lines(rng, [*before, line, *fault.after(3), *later, *fault.after(2)], len(before))
+    return Case(name, sheet_of(lines, rng.choice(("\n", "\n", ""))), (at, number))
+
+
+# A sheet with a faulty line.
+def faulty_case(rng, name, fault, later=()):
+    return case_with(rng, name, fault, fault.line, min(fault.numbers), later)
 
 
 # --- Cases ---
@@ -256,13 +262,17 @@ def single_faults(seed, rounds):
                 yield faulty_case(rng, f"single-{number}-{section}-{again}", fault)
 
 
-# Every pair of numbers on one line, the fields in both orders.
+# Every pair of numbers on one line, the fields in both orders; and where the lower one hides the other, the line
+# with the higher one alone.
 def line_pairs(seed, rounds):
     rng = part(seed, "pair")
     for low, high in LINE_PAIRS:
         for first, second in ((low, high), (high, low)):
             for again in range(6 * rounds):
-                yield faulty_case(rng, f"pair-{first}-{second}-{again}", draw_fault(rng, (first, second)))
+                fault = draw_fault(rng, (first, second))
+                yield faulty_case(rng, f"pair-{first}-{second}-{again}", fault)
+                if low in HIDING and fits(fault.hidden):
+                    yield case_with(rng, f"hidden-{high}-by-{low}-{first}-{again}", fault, fault.hidden, high)
 
 
 # Three and more numbers on one line.
