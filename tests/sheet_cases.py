@@ -66,10 +66,12 @@ PRINTED_SHEETS = (
     ("path-once", NAMES + "rel r a b\nrel r a c\nrel s b a\nrel s c a\nrule chain r s r", "finding 13 a a\ntotal 1"),
     ("as-named", NAMES + "rel r a b\nrule rel r b a\nrule rel ~r b a\nrule norel ~r b a",
      "finding 10 b a\nfinding 12 b a\ntotal 2"),
-    ("itself", NAMES + "rule differ a a\nrule same a c\nrule same c a", "finding 9 a a\nfinding 10 a c\nfinding 11 c a\ntotal 3"),
+    ("itself", NAMES + "rule differ a a\nrule same a c\nrule same c a",
+     "finding 9 a a\nfinding 10 a c\nfinding 11 c a\ntotal 3"),
     ("inverse-left", NAMES + "runder ~r s\nrel r a b\nrule rel s b a\nrule rel s a b", "finding 12 a b\ntotal 1"),
     ("inverse-both", NAMES + "runder ~r ~s\nrel r a b\nrule rel s b a\nrule rel s a b", "finding 11 b a\ntotal 1"),
-    ("step-twice", NAMES + "runder r ~s\nrunder s ~r\nrel r a b\nrule norel r a b\nrule norel r b a", "finding 12 a b\ntotal 1"),
+    ("step-twice", NAMES + "runder r ~s\nrunder s ~r\nrel r a b\nrule norel r a b\nrule norel r b a",
+     "finding 12 a b\ntotal 1"),
     ("copied-links", NAMES + "rel r a b\nsame a c\nrule norel r c b\nrule norel r b c", "finding 11 c b\ntotal 1"),
     ("fits-none", NAMES + "in a C\nin b D\nin c D\nrel r a b\nrule sub C some r D\nrule sub C all r D", "total 0"),
     ("at-most-0", NAMES + "rel r a b\nrule sub top atmost 0 r top", "finding 10 a\ntotal 1"),
@@ -223,14 +225,15 @@ def damaged(seed, sheets):
 # Lines of words that come up in sheets, in any order.
 def soup(seed, sheets):
     rng = part(seed, "soup")
-    vocabulary = [*DECLARATIONS, *STATEMENTS, "rule", *RULES, *OPERATORS, "sheet", "1", "2", "8", "9", "0", "a", "b", "A", "B",
-                  "r", "~r", "~", "", " ", "3-Mar"]
+    vocabulary = [*DECLARATIONS, *STATEMENTS, "rule", *RULES, *OPERATORS, "sheet", "1", "2", "8", "9", "0", "a", "b", "A",
+                  "B", "r", "~r", "~", "", " ", "3-Mar"]
     few = ["a", "b", "A", "B", "r", "~r", "s", "2", "top", "not", "some", "and"]
     for number in range(sheets):
         head = lines_of("sheet 1\nconcept A\nconcept B\nrole r\nrole s\nitem a\nitem b")
         lines = []
         for _ in range(rng.randint(1, 5)):
-            first = rng.choice((["rule", rng.choice(list(RULES))], [rng.choice(vocabulary)], [rng.choice(list(STATEMENTS))]))
+            first = rng.choice((["rule", rng.choice(list(RULES))], [rng.choice(vocabulary)],
+                                [rng.choice(list(STATEMENTS))]))
             lines.append(first + [rng.choice(rng.choice((few, few, vocabulary))) for _ in range(rng.randint(0, 6))])
         yield Case(f"soup-{number}", sheet_of(head + lines), None)
 

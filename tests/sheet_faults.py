@@ -118,7 +118,8 @@ def bad_rule_line(rng, book, numbers):
 # A statement line in which these of 15, 19 apply, in that order of places.
 def bad_statement_line(rng, book, numbers):
     word = rng.choice(list(STATEMENTS))
-    return bad_names(rng, book, numbers, [word], [{"concept": "stated concept"}.get(what, what) for what in STATEMENTS[word]])
+    whats = ["stated concept" if what == "concept" else what for what in STATEMENTS[word]]
+    return bad_names(rng, book, numbers, [word], whats)
 
 
 # A declaration line of a kind in which these of 15, 16, 17 apply, none or one of them.

@@ -91,8 +91,8 @@ def rule_alone_unknown(fields):
 def first_field_first(sheet, fields):
     if fields_faults_sound(sheet, fields) & {10, 12, 13, 14} or fields[0] not in (*STATEMENTS, "rule"):
         return fields_faults_sound(sheet, fields)
-    found = [min(faults) for faults in (sheets.field_faults(sheet, *place) for place in sheets.line_places(fields)) if faults]
-    return {found[0]} if found else fields_faults_sound(sheet, fields)
+    found = [sheets.field_faults(sheet, *place) for place in sheets.line_places(fields)]
+    return next((faults for faults in found if faults), fields_faults_sound(sheet, fields))
 
 
 # One number before another where both apply.
@@ -328,7 +328,8 @@ def cells_by(change):
 # The cell of `runder` by which sides have `~`.
 def role_step(inverse):
     def change(cell, fields):
-        return (*cell[:3], int(inverse(*(text.startswith("~") for text in fields[1:])))) if cell[0] == "role_under" else cell
+        sides = [text.startswith("~") for text in fields[1:]]
+        return (*cell[:3], int(inverse(*sides))) if cell[0] == "role_under" else cell
     return cells_by(change)
 
 
@@ -439,9 +440,9 @@ def fresh_if_used(cells):
 NAMES = "[A-Za-z0-9._/-]*"
 
 
-# A line is bad by another measure.
-def bad_by(length, letter):
-    return lambda line: length(line) or any(letter(ord(c)) for c in line)
+# A line is bad by other bytes, or only by its bytes.
+def bad_by(letter, most=512):
+    return lambda line: len(line) > most or any(letter(ord(c)) for c in line)
 
 
 # Whether a byte is bad.
@@ -466,12 +467,12 @@ def line_fault_table():
         "line feeds do not count": ("sheet_too_long", lambda sheet: len(sheet.replace(b"\n", b"")) > 32768),
         "lines of 512 bytes are too long": ("LINE_BYTES", 511),
         "lines of 513 bytes are taken": ("LINE_BYTES", 513),
-        "long lines are taken": ("line_is_bad", bad_by(lambda line: False, is_bad)),
-        "127 is taken": ("line_is_bad", bad_by(lambda line: len(line) > 512, lambda b: is_bad(b) and b != 127)),
-        "bytes from 128 on are taken": ("line_is_bad", bad_by(lambda line: len(line) > 512, lambda b: is_bad(b) and b < 128)),
-        "carriage returns are taken": ("line_is_bad", bad_by(lambda line: len(line) > 512, lambda b: is_bad(b) and b != 13)),
-        "zeros are taken": ("line_is_bad", bad_by(lambda line: len(line) > 512, lambda b: is_bad(b) and b != 0)),
-        "blanks are bad": ("line_is_bad", bad_by(lambda line: len(line) > 512, lambda b: is_bad(b) or b == 32)),
+        "long lines are taken": ("line_is_bad", bad_by(is_bad, 10**6)),
+        "127 is taken": ("line_is_bad", bad_by(lambda b: is_bad(b) and b != 127)),
+        "bytes from 128 on are taken": ("line_is_bad", bad_by(lambda b: is_bad(b) and b < 128)),
+        "carriage returns are taken": ("line_is_bad", bad_by(lambda b: is_bad(b) and b != 13)),
+        "zeros are taken": ("line_is_bad", bad_by(lambda b: is_bad(b) and b != 0)),
+        "blanks are bad": ("line_is_bad", bad_by(lambda b: is_bad(b) or b == 32)),
         "bad bytes are found before all": ("numbered_lines", bytes_screened),
         "any edition is taken": ("is_header", lambda line: line.startswith("sheet\t") and len(line.split("\t")) == 2),
         "a longer header is taken": ("is_header", lambda line: line.startswith("sheet\t1")),

@@ -29,48 +29,52 @@ def headers():
 SMALL = "sheet|1\nconcept|A\nconcept|B\nrole|r\nrole|s\nitem|a\nitem|b\nitem|and\nrole|top\nconcept|x\nrole|x\nitem|x\n"
 AFTER_SMALL = (
     # fields and tabs
-    ("concept", 14), ("concept|", 15), ("concept|C|", 14), ("concept||C", 14), ("|concept|C", 12), ("concept|C|D", 14),
-    ("in|a", 14), ("in||A", 15), ("in|a|", 15), ("in|a|A|", 14), ("rel|r|a", 14), ("rel|r|a|b|", 14), ("same|a", 14),
-    ("rule", 14), ("rule|", 12), ("rule||sub", 12), ("rule|sub", 14), ("rule|sub|A", 14), ("rule|sub|A|", 15),
-    ("rule|sub|A|B|", 14), ("rule|sub||", 15), ("rule|sub||A", 15), ("rule|sub|||", 14), ("rule|in|A", 14),
-    ("rule|in|A|", 15), ("rule|in||a", 15), ("rule|in|A|a|", 14), ("rule|ref", 14), ("rule|ref|", 15), ("rule|ref|r|", 14),
-    ("rule|rsub|r", 14), ("rule|rsub|r|", 15), ("rule|dis|r|s|", 14), ("rule|chain", 14), ("rule|chain|r", 14),
-    ("rule|chain|r|s", 14), ("rule|chain|r|s|", 15), ("rule|chain|r|s|r", None), ("rule|chain|r|s|r|", 15),
-    ("rule|chain|r|s|r|s", None), ("rule|chain|r|s|r|s|", 15), ("rule|chain|r|s|r|s|r", None), ("rule|chain|r|s|r|s|r|", 14),
-    ("rule|chain|r|s|r|s|r|s", 14), ("rule|chain||", 14), ("rule|chain|||", 15), ("rule|chain||||||", 14),
-    ("rule|rel|r|a", 14), ("rule|rel|r|a|b|", 14), ("rule|same|a|b|a", 14), ("rule|differ|a", 14), ("rule|norel|r|a|b", None),
+    ("concept", 14), ("concept|", 15), ("concept|C|", 14), ("concept||C", 14), ("|concept|C", 12),
+    ("concept|C|D", 14), ("in|a", 14), ("in||A", 15), ("in|a|", 15), ("in|a|A|", 14), ("rel|r|a", 14),
+    ("rel|r|a|b|", 14), ("same|a", 14), ("rule", 14), ("rule|", 12), ("rule||sub", 12), ("rule|sub", 14),
+    ("rule|sub|A", 14), ("rule|sub|A|", 15), ("rule|sub|A|B|", 14), ("rule|sub||", 15), ("rule|sub||A", 15),
+    ("rule|sub|||", 14), ("rule|in|A", 14), ("rule|in|A|", 15), ("rule|in||a", 15), ("rule|in|A|a|", 14),
+    ("rule|ref", 14), ("rule|ref|", 15), ("rule|ref|r|", 14), ("rule|rsub|r", 14), ("rule|rsub|r|", 15),
+    ("rule|dis|r|s|", 14), ("rule|chain", 14), ("rule|chain|r", 14), ("rule|chain|r|s", 14), ("rule|chain|r|s|", 15),
+    ("rule|chain|r|s|r", None), ("rule|chain|r|s|r|", 15), ("rule|chain|r|s|r|s", None), ("rule|chain|r|s|r|s|", 15),
+    ("rule|chain|r|s|r|s|r", None), ("rule|chain|r|s|r|s|r|", 14), ("rule|chain|r|s|r|s|r|s", 14),
+    ("rule|chain||", 14), ("rule|chain|||", 15), ("rule|chain||||||", 14), ("rule|rel|r|a", 14),
+    ("rule|rel|r|a|b|", 14), ("rule|same|a|b|a", 14), ("rule|differ|a", 14), ("rule|norel|r|a|b", None),
     # words
-    (" ", 12), ("\t", 12), ("|", 12), ("sheet|1", 12), ("sheet", 12), ("Concept|C", 12), ("concept |C", 12), ("in |a|A", 12),
-    ("rule |sub|A|B", 12), ("rule|Sub|A|B", 12), ("rule|sub |A|B", 12), ("rule|foo", 12), ("rule|foo|||", 12),
-    ("rule|under|A|B", 12), ("rule|top", 12), ("foo", 12), ("IN|a|A", 12),
+    (" ", 12), ("\t", 12), ("|", 12), ("sheet|1", 12), ("sheet", 12), ("Concept|C", 12), ("concept |C", 12),
+    ("in |a|A", 12), ("rule |sub|A|B", 12), ("rule|Sub|A|B", 12), ("rule|sub |A|B", 12), ("rule|foo", 12),
+    ("rule|foo|||", 12), ("rule|under|A|B", 12), ("rule|top", 12), ("foo", 12), ("IN|a|A", 12),
     # shapes of expressions
-    ("rule|sub|A|B|nowhere", 14), ("rule|sub|and|A|B", 14), ("rule|sub|and|A|B|A", None), ("rule|sub|and|A|B|A|B", 14),
-    ("rule|sub|not|A", 14), ("rule|sub|not|A|B", None), ("rule|sub|some|r|A", 14), ("rule|sub|some|r|A|B", None),
-    ("rule|sub|atleast|2|r|A", 14), ("rule|sub|atleast|2|r|A|B", None), ("rule|sub|atmost|2|r|A|B", None),
-    ("rule|sub|self|r|A", None), ("rule|sub|one|a|A", None), ("rule|sub|one|A", 14), ("rule|sub|top|bot", None),
-    ("rule|sub|top|top|A", 14), ("rule|sub|A|~not|A", 14), ("rule|sub|A|~A", 15), ("rule|sub|AND|A|B", 14),
-    ("rule|sub|AND|A", 19), ("rule|sub|some|and|A|B", 19), ("rule|sub|some|top|A|B", None), ("rule|sub|one|and|B", None),
-    ("rule|sub|atleast|and|A|B", 14), ("rule|sub|atleast|and|r|A|B", 20), ("rule|sub|all|r|A|B", None),
-    ("rule|sub|self|some|A", 19), ("rule|sub|self|top|A", None), ("rule|sub|one|x|x", None), ("rule|in|one|and|and", None),
-    ("rule|in|a|A", 19), ("rule|in|and|a", 14), ("rule|in|and|A|B|a", None), ("rule|in|top|a", None), ("rule|in|bot|and", None),
+    ("rule|sub|A|B|nowhere", 14), ("rule|sub|and|A|B", 14), ("rule|sub|and|A|B|A", None),
+    ("rule|sub|and|A|B|A|B", 14), ("rule|sub|not|A", 14), ("rule|sub|not|A|B", None), ("rule|sub|some|r|A", 14),
+    ("rule|sub|some|r|A|B", None), ("rule|sub|atleast|2|r|A", 14), ("rule|sub|atleast|2|r|A|B", None),
+    ("rule|sub|atmost|2|r|A|B", None), ("rule|sub|self|r|A", None), ("rule|sub|one|a|A", None),
+    ("rule|sub|one|A", 14), ("rule|sub|top|bot", None), ("rule|sub|top|top|A", 14), ("rule|sub|A|~not|A", 14),
+    ("rule|sub|A|~A", 15), ("rule|sub|AND|A|B", 14), ("rule|sub|AND|A", 19), ("rule|sub|some|and|A|B", 19),
+    ("rule|sub|some|top|A|B", None), ("rule|sub|one|and|B", None), ("rule|sub|atleast|and|A|B", 14),
+    ("rule|sub|atleast|and|r|A|B", 20), ("rule|sub|all|r|A|B", None), ("rule|sub|self|some|A", 19),
+    ("rule|sub|self|top|A", None), ("rule|sub|one|x|x", None), ("rule|in|one|and|and", None), ("rule|in|a|A", 19),
+    ("rule|in|and|a", 14), ("rule|in|and|A|B|a", None), ("rule|in|top|a", None), ("rule|in|bot|and", None),
     # names
-    ("concept|and", 15), ("concept|AND", None), ("role|and", None), ("item|top", None), ("in|a|and", 15), ("in|and|A", None),
-    ("under|top|A", 15), ("under|A|bot", 15), ("under|A|B", None), ("concept|A", 17), ("role|A", None), ("item|A", None),
-    ("concept|a", None), ("item|a", 17), ("role|r", 17), ("concept|C D", 15), ("concept|~C", 15), ("item|~c", 15),
-    ("role|~t", 15), ("item|c,d", 15), ("item|.", None), ("item|/", None), ("item|_", None), ("item|-", None), ("item|+", 15),
-    ("in|A|a", 19), ("in|a|r", 19), ("in|r|A", 19), ("rel|A|a|b", 19), ("rel|r|A|b", 19), ("same|a|A", 19), ("under|a|B", 19),
-    ("runder|A|r", 19), ("same|A|r", 19), ("in|zz|!", 15), ("in|!|zz", 15), ("rel|zz|!|a", 15), ("rel|!|zz|a", 15),
-    ("rule|sub|zz|!", 15), ("rule|sub|!|zz", 15), ("rule|same|zz|!", 15), ("rule|rel|!|zz|a", 15), ("same|a|a", None),
-    ("in|x|x", None), ("rel|x|x|x", None), ("same|x|a", None), ("runder|x|r", None), ("rule|sub|x|one|x", None),
+    ("concept|and", 15), ("concept|AND", None), ("role|and", None), ("item|top", None), ("in|a|and", 15),
+    ("in|and|A", None), ("under|top|A", 15), ("under|A|bot", 15), ("under|A|B", None), ("concept|A", 17),
+    ("role|A", None), ("item|A", None), ("concept|a", None), ("item|a", 17), ("role|r", 17), ("concept|C D", 15),
+    ("concept|~C", 15), ("item|~c", 15), ("role|~t", 15), ("item|c,d", 15), ("item|.", None), ("item|/", None),
+    ("item|_", None), ("item|-", None), ("item|+", 15), ("in|A|a", 19), ("in|a|r", 19), ("in|r|A", 19),
+    ("rel|A|a|b", 19), ("rel|r|A|b", 19), ("same|a|A", 19), ("under|a|B", 19), ("runder|A|r", 19), ("same|A|r", 19),
+    ("in|zz|!", 15), ("in|!|zz", 15), ("rel|zz|!|a", 15), ("rel|!|zz|a", 15), ("rule|sub|zz|!", 15),
+    ("rule|sub|!|zz", 15), ("rule|same|zz|!", 15), ("rule|rel|!|zz|a", 15), ("same|a|a", None), ("in|x|x", None),
+    ("rel|x|x|x", None), ("same|x|a", None), ("runder|x|r", None), ("rule|sub|x|one|x", None),
     # `~` where it may and may not stand
     ("rel|~r|a|b", 15), ("rel|~q|a|b", 15), ("runder|~r|s", None), ("runder|r|~s", None), ("runder|~r|~s", None),
     ("runder|~~r|s", 15), ("runder|~|s", 15), ("runder|~ r|s", 15), ("runder|~q|s", 19), ("rule|ref|~r", None),
     ("rule|irr|~r", None), ("rule|ref|~~r", 15), ("rule|ref|~", 15), ("rule|ref|r~", 15), ("rule|rsub|~r|~s", None),
     ("rule|dis|r|~s", None), ("rule|chain|~r|~s|~r", None), ("rule|rel|~r|a|b", None), ("rule|norel|~r|a|b", None),
-    ("rule|rel|r|~a|b", 15), ("rule|same|~a|b", 15), ("rule|in|~A|a", 15), ("rule|in|A|~a", 15), ("rule|sub|A|some|~r|B", None),
-    ("rule|sub|A|all|~r|B", None), ("rule|sub|A|atleast|2|~r|B", None), ("rule|sub|A|atmost|2|~r|B", None),
-    ("rule|sub|self|~r|B", None), ("rule|sub|one|~a|B", 15), ("rule|sub|A|atleast|~2|r|B", 20), ("rule|sub|A|some|r|~B", 15),
-    ("in|~a|A", 15), ("in|a|~A", 15), ("same|~a|b", 15), ("under|~A|B", 15), ("~rule|ref|r", 12), ("rule|~ref|r", 12),
+    ("rule|rel|r|~a|b", 15), ("rule|same|~a|b", 15), ("rule|in|~A|a", 15), ("rule|in|A|~a", 15),
+    ("rule|sub|A|some|~r|B", None), ("rule|sub|A|all|~r|B", None), ("rule|sub|A|atleast|2|~r|B", None),
+    ("rule|sub|A|atmost|2|~r|B", None), ("rule|sub|self|~r|B", None), ("rule|sub|one|~a|B", 15),
+    ("rule|sub|A|atleast|~2|r|B", 20), ("rule|sub|A|some|r|~B", 15), ("in|~a|A", 15), ("in|a|~A", 15),
+    ("same|~a|b", 15), ("under|~A|B", 15), ("~rule|ref|r", 12), ("rule|~ref|r", 12),
     # numbers of more than one field
     ("rule|sub|A|atleast|9|q|B", 19), ("rule|sub|A|atleast|9|r|Q", 19), ("rule|sub|A|atleast|9|~|B", 15),
     ("rule|sub|A|atleast|9|r|B", 20), ("rule|sub|A|atleast||r|B", 20), ("rule|sub|A|atleast|1 |r|B", 20),
@@ -119,8 +123,8 @@ def dates(seed):
     shaped = [f"{day}-{rng.choice(months)}" for day in (*range(1, 32), *(f"{day:02}" for day in range(1, 10)))]
     for month in months:
         shaped += [f"{rng.randint(1, 31)}-{text}" for text in (month, month.upper(), month.lower(), month.swapcase())]
-        shaped += [f"31-{month}", f"3-{month[0].lower()}{month[1].upper()}{month[2]}", f"03-{month[:2].upper()}{month[2].lower()}"]
-    others = [f"{day}-{rng.choice(months)}" for day in ("0", "00", "32", "33", "40", "99", "003", "031", "100", "", "-3", "x")]
+        shaped += [f"31-{month}", f"3-{month[0].lower()}{month[1].upper()}{month[2]}", f"03-{month[:2].upper()}{month[2]}"]
+    others = [f"{day}-{rng.choice(months)}" for day in ("0", "00", "32", "33", "40", "99", "003", "031", "100", "", "x")]
     others += ["MAR-03", "Mar-3", "3-Ma", "3-Marc", "3-March", "3-M", "3-", "3", "3Mar", "3_Mar", "3.Mar", "3/Mar", "3--Mar",
                "3-Mar-", "3-Mar-26", "-3-Mar", "3-Mai", "3-Okt", "3-Dez", "3-Abc", "3-Mrz", "3-JanFeb", "3-anu", "33-Mar",
                "1-1-Jan"]
@@ -184,7 +188,8 @@ def node_limits():
     for word, whats in OPERATORS.items():
         if "expression" not in whats:
             continue
-        one_more = [word, *({"role": "r", "count": "1", "count from 0": "0"}[what] for what in whats if what != "expression")]
+        filled = {"role": "r", "count": "1", "count from 0": "0"}
+        one_more = [word, *(filled[what] for what in whats if what != "expression")]
         one_more += ["A"] * (whats.count("expression") - 1)
         grows = NODES[word] + whats.count("expression") - 1
         for nodes in (31, 32, 33):
@@ -237,7 +242,8 @@ def line_limits():
         yield Case(f"line-{length}-cr", sheet_of([*declared, [*line[:-1], "top\r"]]), (4, 10))
         yield Case(f"line-{length}-tabs", sheet_of([HEADER, [""] * (length + 1)]), (2, 10 if length > 512 else 12))
         yield Case(f"line-{length}-blanks", sheet_of([HEADER, [" " * length]]), (2, 10 if length > 512 else 12))
-        yield Case(f"line-{length}-name", sheet_of([HEADER, ["item", "x" * (length - 5)]]), (2, 10 if length > 512 else 15))
+        long_name = ["item", "x" * (length - 5)]
+        yield Case(f"line-{length}-name", sheet_of([HEADER, long_name]), (2, 10 if length > 512 else 15))
 
 
 # Sheets of 32,768 and 32,769 bytes.
@@ -260,7 +266,8 @@ def sheet_limits():
 # Every kind of line after every other kind.
 def sections():
     lines = {"concept": "concept C{}", "role": "role t{}", "item": "item c{}", "in": "in a A", "rel": "rel r a b",
-             "same": "same a a", "under": "under A A", "runder": "runder r ~r", "rule": "rule ref r", "rule-sub": "rule sub A B"}
+             "same": "same a a", "under": "under A A", "runder": "runder r ~r", "rule": "rule ref r",
+             "rule-sub": "rule sub A B"}
     section = {**{word: 0 for word in DECLARATIONS}, **{word: 1 for word in STATEMENTS}, "rule": 2, "rule-sub": 2}
     for first in lines:
         for second in lines:
