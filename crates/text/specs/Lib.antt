@@ -1,0 +1,7 @@
+-- Bytes, lines, fields, names, dates, numbers as text. Definitions here; what is proved of them in laws.
+pub mod Bytes
+pub mod Split
+pub mod Name
+pub mod Date
+pub mod Text
+pub mod laws

@@ -1,0 +1,7 @@
+-- What is proved of bytes.
+pub mod Choice
+pub mod Bytes
+pub mod Split
+pub mod Name
+pub mod Text
+pub mod Dates

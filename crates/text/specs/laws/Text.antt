@@ -1,0 +1,80 @@
+-- Laws of written text and of decimal numbers. Assumes nothing.
+use mathlib.Core.Path.{_≡_, refl, _∙_}
+use mathlib.Core.Bool.{Bool, true, false, cond}
+use mathlib.Core.List.{List, [], _∷_, _++_}
+use Prim.Native.Nat.{ℕ, zero, suc, _+_, _*_, _/_, _%_, _<_, _≤_, _^_, zero-le}
+use native.Mathlib.Nat.{add-zero, pow-suc, lt-of-lt-of-le}
+use native.Mathlib.Numerals.{add-one}
+use native.Mathlib.Omega.{arith}
+use borrow.Author.Tests.{lt-ltb, le-ltb, ltb-false}
+use lib.Dec.{ltb, lit≤}
+use lib.ListN.{length, set, getD, drop, length-append, drop-of-length-le}
+use lib.Seq.{sets, drop-cons}
+use Rattle.text.specs.Text.{digits, decimal, Wrote}
+
+-- writing one text after the other
+pub sets-append : (l : List ℕ) (i : ℕ) (u v : List ℕ) → sets l i (u ++ v) ≡ sets (sets l i u) (i + length u) v
+sets-append l i [] v = rw add-zero
+sets-append l i (a ∷ u) v =
+    let k : suc i + length u ≡ i + suc (length u) = omega arith in
+    sets-append (set l i a) (suc i) u v ∙ rw k
+
+-- one text after the other
+pub wrote-then : {room mid exit t u : List ℕ} {at p r : ℕ} → Wrote room at t mid p → Wrote mid p u exit r → Wrote room at (t ++ u) exit r
+wrote-then {room} {mid} {exit} {t} {u} {at} {p} {r} f g =
+    record {
+      here = g .here ∙ rw (sets-append, f .here, f .next);
+      next = g .next ∙ rw (f .next, length-append) (omega arith);
+    }
+
+module _ (l src : List ℕ) (at i : ℕ) where
+  pub sets-out : length src ≤ i → sets l (at + i) (drop i src) ≡ l
+  sets-out h = rw (drop-of-length-le src h)
+
+  pub sets-on : i < length src → sets l (at + i) (drop i src) ≡ sets (set l (at + i) (getD src i 0)) (at + (i + 1)) (drop (i + 1) src)
+  sets-on h =
+      let k : suc (at + i) ≡ at + (i + 1) = omega arith in
+      rw (drop-cons src i 0) (rw (← k, add-one))
+
+-- enough is enough
+pub digits-enough : (f g n : ℕ) → n < f → n < g → digits f n ≡ digits g n
+unfolding digits
+digits-enough zero g n h k = absurd (omega arith)
+digits-enough (suc f) zero n h k = absurd (omega arith)
+digits-enough (suc f) (suc g) n h k = at (ltb n 10) refl (digits-enough f g (n / 10))
+  where
+    at : (e : Bool) → ltb n 10 ≡ e → (n / 10 < f → n / 10 < g → digits f (n / 10) ≡ digits g (n / 10))
+        → cond e [] (digits f (n / 10)) ++ ((48 + n % 10) ∷ []) ≡ cond e [] (digits g (n / 10)) ++ ((48 + n % 10) ∷ [])
+    at true q r = refl
+    at false q r = let m : 10 ≤ n = ltb-false _ _ q in rw (r (omega arith) (omega arith))
+
+pub decimal-one : (n : ℕ) → n < 10 → decimal n ≡ (48 + n % 10) ∷ []
+unfolding decimal digits
+decimal-one n h = rw (lt-ltb _ _ h)
+
+digits-more : (f n : ℕ) → 10 ≤ n → digits (suc f) n ≡ digits f (n / 10) ++ ((48 + n % 10) ∷ [])
+unfolding digits
+digits-more f n h = rw (le-ltb _ _ h)
+
+pub decimal-more : (n : ℕ) → 10 ≤ n → decimal n ≡ decimal (n / 10) ++ ((48 + n % 10) ∷ [])
+unfolding decimal
+decimal-more n h = digits-more n n h ∙ rw (digits-enough n (suc (n / 10)) (n / 10) (omega arith) (omega arith))
+
+-- twenty digits are enough for 64 bits
+digits-short : (k f n : ℕ) → n < 10 ^ suc k → length (digits f n) ≤ suc k
+unfolding digits
+digits-short k zero n h = zero-le
+digits-short zero (suc f) n h = let m : n < 10 = h in rw (lt-ltb _ _ m) (omega arith)
+digits-short (suc k) (suc f) n h = rw length-append (at (ltb n 10) (digits-short k f (n / 10) (let p : n < 10 ^ suc k * 10 = rw pow-suc at h in omega arith)))
+  where
+    at : (e : Bool) → length (digits f (n / 10)) ≤ suc k → length (cond e [] (digits f (n / 10))) + 1 ≤ suc (suc k)
+    at true r = omega arith
+    at false r = omega arith
+
+pub decimal-short : (n : ℕ) → n < 2 ^ 64 → length (decimal n) ≤ 20
+unfolding decimal
+decimal-short n h = digits-short 19 (suc n) n (lt-of-lt-of-le h (lit≤ tt))
+
+-- no text
+pub wrote-none : (room : List ℕ) (at : ℕ) → Wrote room at [] room at
+wrote-none room at = record { here = refl; next = omega arith }

@@ -1,0 +1,71 @@
+ghost use mathlib.Core.Path.{_≡_};
+ghost use Prim.Native.Nat.{_+_};
+ghost use Rattle.text.specs.Split.{fieldAt, fieldFrom, pastField};
+
+// The field at a place of a line, from its start to its end; or none any more.
+pub enum Next {
+    At(usize, usize),
+    End,
+}
+
+// The reader of a line: the line it reads and its place in it.
+pub struct Reader<'a> {
+    pub line: &'a [u8],
+    pub at: usize,
+}
+
+// The field that starts at a place of a line.
+pub fn field_at(line: &[u8], at: usize) -> Next
+    ensures { λ r. ⌜ r ≡ fieldAt (now (line .entry)) at ⌝ }
+{
+    if at <= line.len() {
+        let end = crate::part::end_of(line, at, 9);
+        return Next::At(at, end);
+    }
+    Next::End
+}
+
+// The reader of a line at a place of it.
+pub fn reader_at<'a>(line: &'a [u8], at: usize) -> Reader<'a>
+    ensures { λ r. ⌜ (r .line ≡ line .entry) × (r .at ≡ at) ⌝ }
+{
+    Reader { line, at }
+}
+
+impl<'a> Reader<'a> {
+    // The field that the reader stands at.
+    pub fn next_field(self) -> Next
+        ensures { λ s. ⌜ s ≡ fieldAt (now (self .entry .line)) (self .entry .at) ⌝ }
+    {
+        field_at(self.line, self.at)
+    }
+}
+
+// The field at a place of a line, by a reader that stands there.
+pub fn next_from(line: &[u8], at: usize) -> Next
+    ensures { λ r. ⌜ r ≡ fieldAt (now (line .entry)) at ⌝ }
+{
+    reader_at(line, at).next_field()
+}
+
+// The bytes of the field at a place of a line; none where there is no field any more.
+pub fn field(line: &[u8], at: usize) -> &[u8]
+    ensures { λ r. ⌜ now r ≡ fieldFrom (now (line .entry)) at ⌝ }
+{
+    let f = next_from(line, at);
+    match f {
+        Next::At(start, end) => crate::part::part(line, start, end - start),
+        Next::End => &line[..0],
+    }
+}
+
+// The place past the field at a place of a line, and past the tab that ends it.
+pub fn past(line: &[u8], at: usize) -> usize
+    ensures { λ r. ⌜ r ≡ pastField (now (line .entry)) at ⌝ }
+{
+    let f = next_from(line, at);
+    match f {
+        Next::At(_, end) => end + 1,
+        Next::End => at,
+    }
+}

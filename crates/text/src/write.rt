@@ -1,0 +1,43 @@
+ghost use mathlib.Core.List.{_∷_, []};
+ghost use Prim.Native.Nat.{_+_, _<_, _≤_};
+ghost use lib.ListN.{length};
+ghost use Rattle.text.specs.Text.{decimal, Wrote};
+
+// Writes a byte at a place of the room, where it reaches that far; gives the next place.
+pub fn put(room: &mut [u8], at: usize, b: u8) -> usize
+    requires { ⌜ at < 2000000 ⌝ }
+    ensures { λ r. ⌜ Wrote (now (room .entry)) at (b ∷ []) (now (room .exit)) r ⌝ }
+{
+    if at < room.len() {
+        room[at] = b;
+        return at + 1;
+    }
+    at + 1
+}
+
+// Writes bytes at a place of the room, as far as it reaches; gives the place past them.
+pub fn put_all(room: &mut [u8], at: usize, bytes: &[u8]) -> usize
+    requires { ⌜ (at < 1000000) × (length (now bytes) ≤ 512) ⌝ }
+    ensures { λ r. ⌜ Wrote (now (room .entry)) at (now (bytes .entry)) (now (room .exit)) r ⌝ }
+{
+    let mut i = 0;
+    while i < bytes.len() {
+        put(room, at + i, bytes[i]);
+        i += 1;
+    }
+    at + i
+}
+
+// Writes a number in decimal, without leading zeros; gives the place past it.
+pub fn put_decimal(room: &mut [u8], at: usize, n: usize) -> usize
+    requires { ⌜ at < 1000000 ⌝ }
+    ensures { λ r. ⌜ (Wrote (now (room .entry)) at (decimal n) (now (room .exit)) r) × (r ≤ at + 20) ⌝ }
+{
+    let d = (n % 10) as u8;
+    if n < 10 {
+        put(room, at, 48 + d)
+    } else {
+        let p = put_decimal(room, at, n / 10);
+        put(room, p, 48 + d)
+    }
+}
