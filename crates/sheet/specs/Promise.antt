@@ -1,0 +1,92 @@
+-- What reading a sheet promises: what the lent store holds afterwards, the findings of the sheet's rules, and the printed text.
+use mathlib.Core.Path.{_≡_}
+use mathlib.Core.Bool.{Bool, true, false}
+use mathlib.Core.List.{List, [], _∷_, _++_, map}
+use Prim.Native.Nat.{ℕ, zero, suc}
+use lib.ListN.{length, getD, take, replicate}
+use Rattle.row.specs.Bit.{Words}
+use Rattle.text.specs.Bytes.{bytes}
+use Rattle.text.specs.Text.{decimal}
+use Rattle.closure.specs.declared.Counts.{Counts}
+use Rattle.closure.specs.Cell.{Cell}
+use Rattle.closure.specs.Layout.{Holds, size, width}
+use Rattle.closure.specs.Lines.{Stated}
+use Rattle.closure.specs.Promise.{Keeps}
+use Rattle.rule.specs.declared.Finding.{Finding}
+use Rattle.rule.specs.declared.Second.{Second}
+use Rattle.rule.specs.declared.Second.the-variants as second
+use Rattle.rule.specs.Findings.{Findings}
+use Rattle.sheet.specs.declared.Reading.{Reading}
+use Rattle.sheet.specs.declared.Reading.the-variants as reading
+use Rattle.sheet.specs.Names.{Names, countsOf}
+use Rattle.sheet.specs.Said.{Said, SheetRule, Outcome, begun, outcome}
+use Rattle.sheet.specs.Said.Outcome.{refused as refusedAt, accepted as acceptedSheet}
+
+-- the most findings that are printed
+abbrev pub printLimit : ℕ
+printLimit = 200
+
+-- the store holds exactly what follows from what was said
+abbrev pub Held : Said → List ℕ → Type 0
+Held x t = Keeps width (countsOf (x .names)) (Stated (x .statements)) t
+
+-- the store at a faulty line: all zero until the first accepted statement or rule makes it fresh
+abbrev pub Stopped : Bool → Said → List ℕ → Type 0
+Stopped false x t = t ≡ replicate (size width) 0
+Stopped true x t = Held x t
+
+-- what the lent store s has become, t: untouched where the sheet is refused as a whole
+abbrev pub Leaves : Outcome → List ℕ → List ℕ → Type 0
+Leaves (refusedAt zero k x) s t = t ≡ s
+Leaves (refusedAt (suc n) k x) s t = Stopped (begun x) x t
+Leaves (acceptedSheet x) s t = Held x t
+
+-- the findings of rules in the cells C, by rule: the first rule has the number k
+pub data FindingsFrom (C : Cell → Type 0) (n : Counts) : ℕ → List SheetRule → List Finding → Type 0 where
+  none : {k : ℕ} → FindingsFrom C n k [] []
+  more : {k : ℕ} {r : SheetRule} {rs : List SheetRule} {fs gs : List Finding} → Findings C n k (r .rule) fs → FindingsFrom C n (suc k) rs gs → FindingsFrom C n k (r ∷ rs) (fs ++ gs)
+
+-- the findings of a sheet's rules, numbered from 0 in the order of the sheet, in the store t
+abbrev pub FindingsIn : Said → List ℕ → List Finding → Type 0
+FindingsIn x t fs = FindingsFrom (Holds width (countsOf (x .names)) t) (countsOf (x .names)) 0 (x .rules) fs
+
+-- the answer of reading the sheet into the store s, which becomes t. Of the store only its length is asked: 1
+pub data Reads (sheet s t : List ℕ) : Reading → Type 0 where
+  wrong-size : ¬ (length s ≡ size width) → t ≡ s → Reads sheet s t (reading.Refused 0 1)
+  refused : {n k : ℕ} {x : Said} → length s ≡ size width → outcome sheet ≡ refusedAt n k x → Leaves (refusedAt n k x) s t → Reads sheet s t (reading.Refused n k)
+  accepted : {x : Said} {fs : List Finding} → length s ≡ size width → outcome sheet ≡ acceptedSheet x → Leaves (acceptedSheet x) s t → FindingsIn x t fs
+      → Reads sheet s t (reading.Accepted (countsOf (x .names)) (length (x .rules)) (length fs))
+
+-- a field after a tab
+abbrev pub tabbed : List ℕ → List ℕ
+tabbed f = 9 ∷ f
+
+-- the second item of a finding, if there is one
+abbrev pub secondText : Names → Second → List ℕ
+secondText n second.None = []
+secondText n (second.Item j) = tabbed (getD (n .items) (j .0) [])
+
+-- `finding`, the rule's line number, item, second item if any
+unfoldable pub findingText : Said → Finding → List ℕ
+findingText x f =
+    bytes "finding" ++ tabbed (decimal (getD (map (λ (r : SheetRule). r .line) (x .rules)) (f .rule) 0)) ++ tabbed (getD (x .names .items) (f .item .0) [])
+    ++ secondText (x .names) (f .second) ++ (10 ∷ [])
+
+-- a line for each
+unfoldable pub findingsText : Said → List Finding → List ℕ
+findingsText x [] = []
+findingsText x (f ∷ fs) = findingText x f ++ findingsText x fs
+
+-- `total` and the count of all findings
+unfoldable pub totalText : ℕ → List ℕ
+totalText n = bytes "total" ++ tabbed (decimal n) ++ (10 ∷ [])
+
+-- `refused`, line, number
+unfoldable pub refusedText : ℕ → ℕ → List ℕ
+refusedText n k = bytes "refused" ++ tabbed (decimal n) ++ tabbed (decimal k) ++ (10 ∷ [])
+
+-- the text that is printed for a sheet: of an accepted one its findings, in a store that holds exactly what follows, 200 at most, and their total
+pub data Prints (sheet : List ℕ) : List ℕ → Type 0 where
+  refused : {n k : ℕ} {x : Said} → outcome sheet ≡ refusedAt n k x → Prints sheet (refusedText n k)
+  accepted : {x : Said} {t : List ℕ} {fs : List Finding} → outcome sheet ≡ acceptedSheet x → Words 64 t → Held x t → FindingsIn x t fs
+      → Prints sheet (findingsText x (take printLimit fs) ++ totalText (length fs))

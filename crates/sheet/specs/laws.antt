@@ -1,0 +1,4 @@
+-- What is proved of sheets.
+pub mod Words
+pub mod Due
+pub mod Readings
