@@ -3,6 +3,7 @@ pub mod Words
 pub mod Due
 pub mod Names
 pub mod Read
+pub mod Fault
 pub mod Said
 pub mod Promise
 pub mod Table

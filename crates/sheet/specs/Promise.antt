@@ -18,8 +18,9 @@ use Rattle.rule.specs.declared.Second.the-variants as second
 use Rattle.rule.specs.Findings.{Findings}
 use Rattle.sheet.specs.declared.Reading.{Reading}
 use Rattle.sheet.specs.declared.Reading.the-variants as reading
+use Rattle.sheet.specs.Fault.{begun}
 use Rattle.sheet.specs.Names.{Names, countsOf}
-use Rattle.sheet.specs.Said.{Said, SheetRule, Outcome, begun, outcome}
+use Rattle.sheet.specs.Said.{Said, SheetRule, Outcome, marksOf, outcome}
 use Rattle.sheet.specs.Said.Outcome.{refused as refusedAt, accepted as acceptedSheet}
 
 -- the most findings that are printed
@@ -38,7 +39,7 @@ Stopped true x t = Held x t
 -- what the lent store s has become, t: untouched where the sheet is refused as a whole
 abbrev pub Leaves : Outcome → List ℕ → List ℕ → Type 0
 Leaves (refusedAt zero k x) s t = t ≡ s
-Leaves (refusedAt (suc n) k x) s t = Stopped (begun x) x t
+Leaves (refusedAt (suc n) k x) s t = Stopped (begun (marksOf x)) x t
 Leaves (acceptedSheet x) s t = Held x t
 
 -- the findings of rules in the cells C, by rule: the first rule has the number k

@@ -3,8 +3,8 @@ use mathlib.Core.Path.{_≡_}
 use mathlib.Core.Bool.{cond}
 use mathlib.Core.List.{List, [], _∷_, _++_, map}
 use Prim.Native.Nat.{ℕ, _+_, _/_, _%_, _≤_}
-use lib.ListN.{take, drop, replicate}
-use Rattle.text.specs.Bytes.{partOf}
+use lib.ListN.{length, take, drop, replicate}
+use Rattle.text.specs.Bytes.{partOf, place as placeOf}
 use Rattle.closure.specs.Layout.{Fits, width}
 use Rattle.sheet.specs.declared.Due.{Due}
 use Rattle.sheet.specs.declared.Due.the-variants as due
@@ -35,6 +35,11 @@ namesOf sheet t =
       roles = entered sheet (t .counts .roles) (t .roles);
       items = entered sheet (t .counts .items) (t .items);
     }
+
+-- the place k of the name w among the names, of which there are n
+pub record Placed (w : List ℕ) (names : List (List ℕ)) (n k : ℕ) : Type 0 where
+  pub place : k ≡ placeOf w names
+  pub count : length names ≡ n
 
 -- a table with no more names than there is room for
 abbrev pub Roomy : Table → Type 0

@@ -1,5 +1,8 @@
 // Sheets: what their lines say, what is wrong with them, and what is printed.
 pub mod dues;
+pub mod faults;
+pub mod lines;
+pub mod names;
 pub mod walk;
 pub mod words;
 
@@ -127,6 +130,12 @@ pub struct Table {
     pub roles: [u32; 16],
     pub items: [u32; 128],
     pub counts: Counts,
+}
+
+// How far a sheet has come: whether a statement was accepted, and how many rules.
+pub struct Marks {
+    pub stated: bool,
+    pub rules: usize,
 }
 
 // What reading a sheet gives.

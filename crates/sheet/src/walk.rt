@@ -1,9 +1,11 @@
 ghost use mathlib.Core.Path.{_≡_};
+ghost use mathlib.Core.Bool.{cond};
 ghost use Prim.Native.Nat.{_≤_, _<_};
 ghost use lib.ListN.{length, getD};
 ghost use Rattle.text.specs.Split.{partsFrom};
+ghost use Rattle.sheet.specs.Due.{dues, isExpr};
 ghost use Rattle.sheet.specs.Names.{nodesOf};
-ghost use Rattle.sheet.specs.Said.{none};
+ghost use Rattle.sheet.specs.Fault.{none, lineLimit};
 ghost use Rattle.sheet.specs.Table.{Roomy, Step, WalkedBy, namesOf, opening, pending};
 use crate::Due;
 use crate::Lead;
@@ -117,7 +119,7 @@ fn step(l: Lineup, p: Pending, o: Operator) -> Pending
 }
 
 // The nodes that a word of an expression stands for.
-fn nodes(o: Operator) -> usize
+fn nodes_of(o: Operator) -> usize
     ensures { λ r. ⌜ (r ≡ nodesOf o) × (r ≤ 4) ⌝ }
 {
     match o {
@@ -133,5 +135,47 @@ fn nodes(o: Operator) -> usize
         Operator::Top => 1,
         Operator::Bot => 2,
         Operator::None => 1,
+    }
+}
+
+// The nodes of a field in which d is due, and which has the word o.
+fn due_nodes(d: Due, o: Operator) -> usize
+    ensures { λ r. ⌜ (r ≡ cond (isExpr d) (nodesOf o) 0) × (r ≤ 4) ⌝ }
+{
+    if crate::dues::is_expr(d) {
+        return nodes_of(o);
+    }
+    0
+}
+
+// What the fields of a line from a place on come to, where the line-up is due.
+pub fn walk(sheet: &[u8], t: Table, line: &[u8], from: usize, l: Lineup) -> Walked
+    requires { ⌜ Roomy t × (length (now line) ≤ lineLimit) ⌝ }
+    ensures { λ r. ⌜ WalkedBy (namesOf (now (sheet .entry)) t) (dues l) (partsFrom 9 (now (line .entry)) from) r ⌝ }
+{
+    let mut at = from;
+    let mut p = pend(Lead::None, 0, 0);
+    let mut fault = 0;
+    let mut nodes = 0;
+    while at <= line.len() {
+        if none_left(l, p) {
+            return Walked {
+                fits: false,
+                fault,
+                nodes,
+            };
+        }
+        let f = text::line::field(line, at);
+        let d = next_due(l, p);
+        let o = crate::words::operator(f);
+        fault = crate::faults::lower(fault, crate::faults::field(sheet, t, d, f));
+        nodes += due_nodes(d, o);
+        p = step(l, p, o);
+        at = text::line::past(line, at);
+    }
+    Walked {
+        fits: none_left(l, p),
+        fault,
+        nodes,
     }
 }

@@ -1,4 +1,5 @@
 ghost use mathlib.Core.Path.{_≡_};
+ghost use lib.ListN.{length};
 ghost use Rattle.text.specs.Split.{fields, partsFrom};
 ghost use Rattle.sheet.specs.Names.{reserved as reservedOf};
 ghost use Rattle.sheet.specs.Words.{operatorOf, lineForm, ruleForm, isRule, formOf, bodyOf, sectionOf};
@@ -121,4 +122,18 @@ pub fn section(f: Form) -> Section
         Form::Bare => Section::Rules,
         Form::Unknown => Section::None,
     }
+}
+
+// How many fields there are after the word or words of a line.
+pub fn body_count(line: &[u8]) -> usize
+    ensures { λ r. ⌜ r ≡ length (bodyOf (fields (now (line .entry)))) ⌝ }
+{
+    let n = text::part::count(line, 9);
+    if is_rule(text::line::field(line, 0)) {
+        if n < 2 {
+            return 0;
+        }
+        return n - 2;
+    }
+    n - 1
 }

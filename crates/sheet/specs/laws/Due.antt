@@ -18,7 +18,7 @@ use Rattle.sheet.specs.declared.Operator.{Operator}
 use Rattle.sheet.specs.declared.Operator.the-variants as operator
 use Rattle.sheet.specs.declared.Pending.{Pending}
 use Rattle.sheet.specs.Due.{dues, isExpr, wanted}
-use Rattle.sheet.specs.Said.{none}
+use Rattle.sheet.specs.Fault.{none}
 use Rattle.sheet.specs.Table.{before, pending, opening, Stepped, Step}
 
 -- ---- the dues of a line-up

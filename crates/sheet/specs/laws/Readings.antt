@@ -9,9 +9,10 @@ use Rattle.text.specs.Date.{dated, dateShaped, digit, twoDigits}
 use Rattle.text.specs.Name.{isName, lineByte, nameByte}
 use Rattle.text.specs.Split.{split}
 use Rattle.sheet.specs.Due.{fits}
+use Rattle.sheet.specs.Fault.{fieldsFault, formFault, headerFault, lineFault}
 use Rattle.sheet.specs.Names.{fieldFault, fieldFaults, lowerFault, nameFault, newFault, nodesIn}
 use Rattle.sheet.specs.Read.{nodesAt, read, size}
-use Rattle.sheet.specs.Said.{Outcome, fieldsFault, formFault, headerFault, lineFault, lineSaid, outcome, outcomeFrom}
+use Rattle.sheet.specs.Said.{Outcome, lineSaid, outcome, outcomeFrom}
 use Rattle.sheet.specs.Said.Outcome.{accepted, refused}
 use Rattle.sheet.specs.Words.{lineForm, operatorOf, ruleForm}
 

@@ -2,10 +2,10 @@
 use mathlib.Core.Path.{_≡_, refl, sym, _∙_, ap}
 use mathlib.Core.Bool.{true, false}
 use mathlib.Core.List.{List, [], _∷_}
-use Prim.Native.Nat.{ℕ, suc, _≤_, _<_, zero-le}
+use Prim.Native.Nat.{ℕ, suc, _-_, _≤_, _<_, zero-le}
 use native.Mathlib.Omega.{arith}
 use lib.Dec.{ltb}
-use lib.ListN.{length, getD, List·getD-eq-default}
+use lib.ListN.{length, getD, length-drop, List·getD-eq-default}
 use Rattle.text.specs.Bytes.{place}
 use Rattle.text.specs.Split.{fields, partsFrom, fieldFrom, pastField, split, words}
 use Rattle.text.specs.laws.Choice.{le-cases}
@@ -81,3 +81,20 @@ module _ (line w : List ℕ) (at : ℕ) (first : w ≡ fieldFrom line 0) (past :
     body-rule past2 q =
         rw (fields-two, e, q)
         (le-cases at (length line) (λ h. rw (fields-next line at h)) (λ h. rw (past-none line at h) (rw (fields-none line at h))))
+
+-- how many fields the body has, of n in all
+module _ (line w : List ℕ) (n : ℕ) (first : w ≡ fieldFrom line 0) (count : n ≡ length (fields line)) where
+  fields-one : fields line ≡ w ∷ partsFrom 9 line (pastField line 0)
+  fields-one = fields-head line ∙ rw first
+
+  counted : n ≡ suc (length (partsFrom 9 line (pastField line 0)))
+  counted = count ∙ rw fields-one
+
+  pub count-some : 1 ≤ n
+  count-some = omega (arith, counted)
+
+  pub count-line : isRule w ≡ false → n - 1 ≡ length (bodyOf (fields line))
+  count-line e = rw (fields-one, e) (omega (arith, counted))
+
+  pub count-rule : isRule w ≡ true → n - 2 ≡ length (bodyOf (fields line))
+  count-rule e = rw (fields-one, e) (omega (arith, counted, length-drop 1 (partsFrom 9 line (pastField line 0))))

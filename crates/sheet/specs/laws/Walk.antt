@@ -1,0 +1,51 @@
+-- Laws of the walk along the fields of a line. Assumes nothing.
+use mathlib.Core.Path.{_≡_, refl, sym, _∙_}
+use mathlib.Core.Bool.{Bool, true, false, cond, true≢false}
+use mathlib.Core.List.{List, [], _∷_}
+use Prim.Native.Nat.{ℕ, zero, suc, _+_}
+use native.Mathlib.Omega.{arith}
+use lib.ListN.{getD}
+use Rattle.sheet.specs.declared.Due.{Due}
+use Rattle.sheet.specs.declared.Due.the-variants as due
+use Rattle.sheet.specs.declared.Operator.{Operator}
+use Rattle.sheet.specs.Due.{fits, isExpr}
+use Rattle.sheet.specs.Names.{Names, fieldFault, fieldFaults, lowerFault, nodesIn, nodesOf}
+use Rattle.sheet.specs.Fault.{none}
+use Rattle.sheet.specs.Table.{Stepped, WalkedBy}
+use Rattle.sheet.specs.Words.{Field, operatorOf}
+use Rattle.sheet.specs.laws.Names.{lower-none, lower-first, lower-assoc}
+
+-- the walk stands where the es are due and the gs are left; what is before came to the fault a and k nodes
+pub record Along (n : Names) (ds es : List Due) (fs gs : List Field) (a k : ℕ) : Type 0 where
+  pub fit : fits ds fs ≡ fits es gs
+  pub faults : fieldFaults n ds fs ≡ lowerFault a (fieldFaults n es gs)
+  pub nodes : nodesIn ds fs ≡ k + nodesIn es gs
+
+module _ (n : Names) (ds : List Due) (fs : List Field) where
+  pub along-start : Along n ds ds fs fs 0 0
+  along-start = record { fit = refl; faults = lower-none 0 (fieldFaults n ds fs) refl; nodes = omega arith }
+
+  lower-zero : (a : ℕ) → lowerFault a 0 ≡ a
+  lower-zero zero = sym (lower-none 0 0 refl)
+  lower-zero (suc a) = sym (lower-first (suc a) 0 (λ q. omega arith) refl)
+
+  pub along-stop : (es : List Due) (gs : List Field) (f : Field) (a k : ℕ) → none es ≡ true → Along n ds es fs (f ∷ gs) a k → WalkedBy n ds fs (record { fits = false; fault = a; nodes = k })
+  unfolding fits fieldFaults nodesIn
+  along-stop [] gs f a k e w = record { fit = sym (w .fit); fault = sym (w .faults ∙ lower-zero a); nodes = omega (arith, w .nodes) }
+  along-stop (d ∷ es) gs f a k e w = absurd (true≢false (sym e))
+
+  pub along-end : (es : List Due) (a k : ℕ) (b : Bool) → b ≡ none es → Along n ds es fs [] a k → WalkedBy n ds fs (record { fits = b; fault = a; nodes = k })
+  unfolding fits fieldFaults nodesIn
+  along-end [] a k b e w = record { fit = e ∙ sym (w .fit); fault = sym (w .faults ∙ lower-zero a); nodes = omega (arith, w .nodes) }
+  along-end (d ∷ es) a k b e w = record { fit = e ∙ sym (w .fit); fault = sym (w .faults ∙ lower-zero a); nodes = omega (arith, w .nodes) }
+
+  pub along-step : (es es′ : List Due) (gs : List Field) (f : Field) (d : Due) (o : Operator) (a b k m : ℕ) → none es ≡ false → Stepped es o es′ → d ≡ getD es 0 due.Nothing → o ≡ operatorOf f
+      → b ≡ lowerFault a (fieldFault n d f) → m ≡ cond (isExpr d) (nodesOf o) 0 → Along n ds es fs (f ∷ gs) a k → Along n ds es′ fs gs b (k + m)
+  unfolding fits fieldFaults nodesIn
+  along-step [] es′ gs f d o a b k m z s h q p r w = absurd (true≢false z)
+  along-step (x ∷ es) es′ gs f d o a b k m z s h q p r w =
+      record {
+        fit = w .fit ∙ rw (s, q);
+        faults = w .faults ∙ rw (s, p, q, h) (sym (lower-assoc a (fieldFault n x f) _));
+        nodes = w .nodes ∙ rw (s, r, q, h) (omega arith);
+      }
