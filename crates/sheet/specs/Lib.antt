@@ -7,4 +7,5 @@ pub mod Fault
 pub mod Said
 pub mod Promise
 pub mod Table
+pub mod Stands
 pub mod laws

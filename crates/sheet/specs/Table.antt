@@ -3,7 +3,7 @@ use mathlib.Core.Path.{_≡_}
 use mathlib.Core.Bool.{cond}
 use mathlib.Core.List.{List, [], _∷_, _++_, map}
 use Prim.Native.Nat.{ℕ, _+_, _/_, _%_, _≤_}
-use lib.ListN.{length, take, drop, replicate}
+use lib.ListN.{length, take, drop, set, replicate}
 use Rattle.text.specs.Bytes.{partOf, place as placeOf}
 use Rattle.closure.specs.Layout.{Fits, width}
 use Rattle.sheet.specs.declared.Due.{Due}
@@ -34,6 +34,34 @@ namesOf sheet t =
       concepts = entered sheet (t .counts .concepts) (t .concepts);
       roles = entered sheet (t .counts .roles) (t .roles);
       items = entered sheet (t .counts .items) (t .items);
+    }
+
+-- the table with one name more
+abbrev pub withConcept : Table → ℕ → Table
+withConcept t p =
+    record {
+      concepts = set (t .concepts) (t .counts .concepts) p;
+      roles = t .roles;
+      items = t .items;
+      counts = record { items = t .counts .items; concepts = t .counts .concepts + 1; roles = t .counts .roles };
+    }
+
+abbrev pub withRole : Table → ℕ → Table
+withRole t p =
+    record {
+      concepts = t .concepts;
+      roles = set (t .roles) (t .counts .roles) p;
+      items = t .items;
+      counts = record { items = t .counts .items; concepts = t .counts .concepts; roles = t .counts .roles + 1 };
+    }
+
+abbrev pub withItem : Table → ℕ → Table
+withItem t p =
+    record {
+      concepts = t .concepts;
+      roles = t .roles;
+      items = set (t .items) (t .counts .items) p;
+      counts = record { items = t .counts .items + 1; concepts = t .counts .concepts; roles = t .counts .roles };
     }
 
 -- the place k of the name w among the names, of which there are n

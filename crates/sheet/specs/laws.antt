@@ -4,4 +4,10 @@ pub mod Due
 pub mod Names
 pub mod Walk
 pub mod Fault
+pub mod Fields
+pub mod Accepted
+pub mod Entry
+pub mod Stands
+pub mod Taken
+pub mod Lines
 pub mod Readings

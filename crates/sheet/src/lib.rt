@@ -1,8 +1,14 @@
 // Sheets: what their lines say, what is wrong with them, and what is printed.
 pub mod dues;
 pub mod faults;
+pub mod keeping;
 pub mod lines;
 pub mod names;
+pub mod numbers;
+pub mod sheets;
+pub mod statements;
+pub mod tables;
+pub mod taking;
 pub mod walk;
 pub mod words;
 
@@ -136,6 +142,19 @@ pub struct Table {
 pub struct Marks {
     pub stated: bool,
     pub rules: usize,
+}
+
+// What is kept of the lines read so far.
+pub struct Kept {
+    pub table: Table,
+    pub marks: Marks,
+}
+
+// How the lines of a sheet end: the number of the faulty line and its number of refusal, or 0 and 0; and what is kept.
+pub struct Ended {
+    pub line: usize,
+    pub why: usize,
+    pub kept: Kept,
 }
 
 // What reading a sheet gives.

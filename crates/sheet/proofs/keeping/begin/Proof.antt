@@ -1,0 +1,29 @@
+-- `sheet::keeping::begin` meets its contract. Assumes nothing.
+use mathlib.Core.Path.{sym, _∙_}
+use Rattle.closure.specs.Layout.{width}
+use Rattle.closure.specs.Refusal.{Sized}
+use Rattle.sheet.specs.Fault.{begun}
+use Rattle.sheet.specs.laws.Stands.{begins-fresh, begins-same, makes-keeps}
+use borrow.Author.Needs.{needs}
+use Rattle.sheet.proofs.keeping.begin.Statement.{statement}
+use Rattle.sheet.proofs.keeping.begin.Tie as tie
+
+begun-requires : tie.Need-begun-requires
+begun-requires c κs = search needs
+
+returns : tie.Need-returns
+returns c = begins-same (begun (c .before .before .before .args .m)) _ _ (sym (c .before .begun .ensures) ∙ c .if1 .taken)
+
+fresh-requires : tie.Need-fresh-requires
+fresh-requires c κs = search needs
+
+same-length : tie.Need-same-length
+same-length c = search needs
+
+returns-2 : tie.Need-returns-2
+returns-2 c =
+    let z : Sized width (c .before .before .before .before .before .before .before .args .counts) (c .before .before .before .before .before .before .before .args .words .now) = record { long = c .before .before .before .before .before .before .before .pre .0; fits = c .before .before .before .before .before .before .before .pre .1 } in
+    begins-fresh (begun (c .before .before .before .before .before .before .before .args .m)) _ _ _ (sym (c .before .before .before .before .before .begun .ensures) ∙ c .before .before .before .before .if1 .left) (makes-keeps z (c .before .before .fresh .ensures))
+
+pub begin-spec : {M : Type 1} → statement M
+begin-spec = tie.close (tie.spec begun-requires returns fresh-requires same-length returns-2)

@@ -1,0 +1,249 @@
+-- Laws of what the reader's records and the store stand for. Assumes nothing.
+use mathlib.Core.Path.{_≡_, refl, sym, _∙_, ap, subst}
+use mathlib.Core.Logic.{_⊎_, inl, inr}
+use mathlib.Core.Bool.{Bool, true, false, not, _||_, true≢false}
+use mathlib.Core.List.{List, [], _∷_, _++_, map}
+use Prim.Native.Nat.{ℕ, _+_, _<_}
+use native.Mathlib.Numerals.{add-one}
+use native.Mathlib.Omega.{arith}
+use borrow.Author.Tests.{lt-ltb}
+use lib.Dec.{ltb}
+use lib.ListN.{length, take, set, length-append}
+use lib.Seq.{take-suc-set}
+use Rattle.logic.specs.Number.{One}
+use Rattle.logic.specs.Number.One.{first, later}
+use Rattle.logic.specs.laws.Number.{one-none}
+use Rattle.closure.specs.declared.Answer.{Answer}
+use Rattle.closure.specs.declared.Counts.{Counts}
+use Rattle.closure.specs.declared.Statement.{Statement}
+use Rattle.closure.specs.Cell.{Cell, Follows, Nothing, With, cellOf}
+use Rattle.closure.specs.Cell.Follows.{given}
+use Rattle.closure.specs.Cell.With.{old, new}
+use Rattle.closure.specs.Layout.{Holds, conceptLimit, itemLimit, roleLimit, width}
+use Rattle.closure.specs.Lines.{Stated}
+use Rattle.closure.specs.Lines.Stated.{stated}
+use Rattle.closure.specs.Promise.{Keeps, Makes}
+use Rattle.closure.specs.Promise.Makes.{refused as make-refused, made}
+use Rattle.closure.specs.Refusal.{FreshFault, Sized}
+use Rattle.closure.specs.Refusal.FreshFault.{wrong-size}
+use Rattle.closure.specs.laws.Least.{follows-all}
+use Rattle.sheet.specs.declared.Form.the-variants as form
+use Rattle.sheet.specs.declared.Marks.{Marks}
+use Rattle.sheet.specs.declared.RuleWord.{RuleWord}
+use Rattle.sheet.specs.declared.StatementWord.{StatementWord}
+use Rattle.sheet.specs.declared.Table.{Table}
+use Rattle.sheet.specs.Fault.{begun, none, ruleLimit}
+use Rattle.sheet.specs.Names.{countsOf}
+use Rattle.sheet.specs.Promise.{Stopped}
+use Rattle.sheet.specs.Read.{at}
+use Rattle.sheet.specs.Said.{Said, saying, statementOf}
+use Rattle.sheet.specs.Stands.{Begins, Stands}
+use Rattle.sheet.specs.Table.{Roomy, entered, nameAt, namesOf, withConcept, withItem, withRole}
+use Rattle.sheet.specs.Words.{Field}
+use Rattle.sheet.specs.laws.Names.{entered-length}
+
+-- ---- the store
+
+-- making a fresh store where there is room for it
+pub makes-keeps : {n : Counts} {s t : List ℕ} {r : Answer} → Sized width n s → Makes width n s t r → Keeps width n Nothing t
+makes-keeps z (made f k) = k
+makes-keeps {n} {s} z (make-refused l e) = absurd (no-fault (l .applies))
+  where
+    no-fault : {k : ℕ} → FreshFault width n s k → ⊥
+    no-fault (wrong-size f) = f z
+
+-- the same cells given under another name
+keeps-iff : {n : Counts} {G H : Cell → Type 0} {s : List ℕ} → ((c : Cell) → G c → H c) → ((c : Cell) → H c → G c) → Keeps width n G s → Keeps width n H s
+keeps-iff f g k = record { store = k .store; sound = λ c h. follows-all (λ d x. given (f d x)) (k .sound c h); whole = λ c h. k .whole c (follows-all (λ d x. given (g d x)) h) }
+
+-- a fresh store holds what follows from no statement
+pub keeps-none : {n : Counts} {s : List ℕ} → Keeps width n Nothing s → Keeps width n (Stated []) s
+keeps-none k = keeps-iff (λ c x. absurd x) none-stated k
+  where
+    none-stated : (c : Cell) → Stated [] c → Nothing c
+    none-stated c (stated o) = one-none o
+
+one-before : {A : Type 0} {x : A} {xs : List A} (y : A) → One x xs → One x (xs ++ y ∷ [])
+one-before y first = first
+one-before y (later o) = later (one-before y o)
+
+one-last : {A : Type 0} (y : A) (xs : List A) → One y (xs ++ y ∷ [])
+one-last y [] = first
+one-last y (x ∷ xs) = later (one-last y xs)
+
+one-split : {A : Type 0} {x y : A} (xs : List A) → One x (xs ++ y ∷ []) → One x xs ⊎ (x ≡ y)
+one-split [] first = inr refl
+one-split [] (later o) = absurd (one-none o)
+one-split (z ∷ xs) first = inl first
+one-split (z ∷ xs) (later o) = push (one-split xs o)
+  where
+    push : {A : Type 0} {x y z : A} {xs : List A} → One x xs ⊎ (x ≡ y) → One x (z ∷ xs) ⊎ (x ≡ y)
+    push (inl o) = inl (later o)
+    push (inr e) = inr e
+
+-- one statement more
+pub keeps-more : {n : Counts} {xs : List Statement} {s t : List ℕ} (x : Statement) → Keeps width n (Stated xs) s → Keeps width n (With (Holds width n s) (cellOf x)) t → Keeps width n (Stated (xs ++ x ∷ [])) t
+keeps-more {n} {xs} {s} x k l = record {
+  store = l .store;
+  sound = λ c h. follows-all from (l .sound c h);
+  whole = λ c h. l .whole c (follows-all to h);
+}
+  where
+    weaken : (c : Cell) → Stated xs c → Follows n (Stated (xs ++ x ∷ [])) c
+    weaken c (stated o) = given (stated (one-before x o))
+
+    from : (c : Cell) → With (Holds width n s) (cellOf x) c → Follows n (Stated (xs ++ x ∷ [])) c
+    from c (old h) = follows-all weaken (k .sound c h)
+    from c new = given (stated (one-last x xs))
+
+    to-line : {y : Statement} → One y xs ⊎ (y ≡ x) → Follows n (With (Holds width n s) (cellOf x)) (cellOf y)
+    to-line (inl o) = given (old (k .whole _ (given (stated o))))
+    to-line (inr e) = subst (λ (y : Statement). Follows n (With (Holds width n s) (cellOf x)) (cellOf y)) (sym e) (given new)
+
+    to : (c : Cell) → Stated (xs ++ x ∷ []) c → Follows n (With (Holds width n s) (cellOf x)) c
+    to c (stated o) = to-line (one-split xs o)
+
+-- begun before, or made fresh now
+pub begins-same : (b : Bool) (n : Counts) (s : List ℕ) → b ≡ true → Begins b n s s
+begins-same true n s e = refl
+begins-same false n s e = absurd (true≢false (sym e))
+
+pub begins-fresh : (b : Bool) (n : Counts) (s t : List ℕ) → b ≡ false → Keeps width n Nothing t → Begins b n s t
+begins-fresh true n s t e k = absurd (true≢false e)
+begins-fresh false n s t e k = k
+
+-- ---- tables
+
+-- the entries of a table have their places
+pub record Places (t : Table) : Type 0 where
+  pub concepts : length (t .concepts) ≡ conceptLimit
+  pub roles : length (t .roles) ≡ roleLimit
+  pub items : length (t .items) ≡ itemLimit width
+
+-- the names are as many as the table counts
+pub counts-of : (sheet : List ℕ) (t : Table) → Places t → Roomy t → countsOf (namesOf sheet t) ≡ t .counts
+counts-of sheet t p r =
+    rw (
+      entered-length sheet (t .counts .items) (t .items) (omega (arith, p .items, r .items)),
+      entered-length sheet (t .counts .concepts) (t .concepts) (omega (arith, p .concepts, r .concepts)),
+      entered-length sheet (t .counts .roles) (t .roles) (omega (arith, p .roles, r .roles)),
+    )
+
+map-last : (sheet : List ℕ) (ps : List ℕ) (p : ℕ) → map (nameAt sheet) (ps ++ p ∷ []) ≡ map (nameAt sheet) ps ++ nameAt sheet p ∷ []
+map-last sheet [] p = refl
+map-last sheet (q ∷ ps) p = rw (map-last sheet ps p)
+
+-- one entry more is one name more
+entered-more : (sheet : List ℕ) (n : ℕ) (entries : List ℕ) (p : ℕ) → n < length entries → entered sheet (n + 1) (set entries n p) ≡ entered sheet n entries ++ nameAt sheet p ∷ []
+entered-more sheet n entries p h = rw (add-one, take-suc-set entries n p h) (map-last sheet (take n entries) p)
+
+-- ---- what stands for what was said, after one line more
+
+none-last : {A : Type 0} (xs : List A) (y : A) → none (xs ++ y ∷ []) ≡ false
+none-last [] y = refl
+none-last (x ∷ xs) y = refl
+
+none-nil : {A : Type 0} (xs : List A) → none xs ≡ true → xs ≡ []
+none-nil [] e = refl
+none-nil (x ∷ xs) e = absurd (true≢false (sym e))
+
+not-begun : (m : Marks) → begun m ≡ false → m .stated ≡ false
+not-begun m e = go (m .stated) e
+  where
+    go : (b : Bool) → (b || ltb 0 (m .rules)) ≡ false → b ≡ false
+    go true q = q
+    go false q = refl
+
+module _ {sheet : List ℕ} {t : Table} {m : Marks} {s : List ℕ} {x : Said} (places : Places t) (st : Stands sheet t m s x) where
+  counted : countsOf (x .names) ≡ t .counts
+  counted = rw (st .names) (counts-of sheet t places (st .room))
+
+  no-statements : begun m ≡ false → x .statements ≡ []
+  no-statements e = none-nil (x .statements) (flip (none (x .statements)) (ap (λ (n : Marks). n .stated) (st .marks) ∙ not-begun m e))
+    where
+      flip : (b : Bool) → not b ≡ false → b ≡ true
+      flip true q = refl
+      flip false q = sym q
+
+  -- the store once it has begun
+  pub begun-keeps : {s1 : List ℕ} → Begins (begun m) (t .counts) s s1 → Keeps width (t .counts) (Stated (x .statements)) s1
+  begun-keeps {s1} b = go (begun m) refl (st .store) b
+    where
+      go : (c : Bool) → begun m ≡ c → Stopped c x s → Begins c (t .counts) s s1 → Keeps width (t .counts) (Stated (x .statements)) s1
+      go true e h q = rw (q, ← counted) h
+      go false e h q = rw (no-statements e) (keeps-none q)
+
+  pub stands-statement : (k : ℕ) (w : StatementWord) (fs : List Field) {s1 s2 : List ℕ} → Begins (begun m) (t .counts) s s1
+      → Keeps width (t .counts) (With (Holds width (t .counts) s1) (cellOf (statementOf (namesOf sheet t) w fs))) s2
+      → Stands sheet t (record { stated = true; rules = m .rules }) s2 (saying k x (form.Statement w) fs)
+  stands-statement k w fs {s1} {s2} b kept =
+      record {
+        names = st .names;
+        marks = rw (none-last (x .statements) (statementOf (x .names) w fs), ap (λ (n : Marks). n .rules) (st .marks));
+        room = st .room;
+        few = st .few;
+        long = kept .store .long;
+        store = rw (counted, st .names) (keeps-more (statementOf (namesOf sheet t) w fs) (begun-keeps b) kept);
+      }
+
+  pub stands-rule : (k : ℕ) (w : RuleWord) (fs : List Field) {s1 : List ℕ} → m .rules < ruleLimit → Begins (begun m) (t .counts) s s1
+      → Stands sheet t (record { stated = m .stated; rules = m .rules + 1 }) s1 (saying k x (form.Rule w) fs)
+  stands-rule k w fs {s1} h b =
+      record {
+        names = st .names;
+        marks = rw (ap (λ (n : Marks). n .stated) (st .marks), length-append) (rw (ap (λ (n : Marks). n .rules) (st .marks)));
+        room = st .room;
+        few = omega arith;
+        long = begun-keeps b .store .long;
+        store = on (m .stated || ltb 0 (m .rules + 1)) (either (m .stated));
+      }
+    where
+      either : (b : Bool) → (b || ltb 0 (m .rules + 1)) ≡ true
+      either true = refl
+      either false = lt-ltb 0 (m .rules + 1) (omega arith)
+
+      on : (c : Bool) → c ≡ true → Stopped c (saying k x (form.Rule w) fs) s1
+      on true e = rw counted (begun-keeps b)
+      on false e = absurd (true≢false (sym e))
+
+  -- where nothing has begun, the store is as it was
+  untouched : (y : Said) → begun m ≡ false → Stopped (begun m) y s
+  untouched y e = go (begun m) e (st .store)
+    where
+      go : (c : Bool) → c ≡ false → Stopped c x s → Stopped c y s
+      go true q h = absurd (true≢false q)
+      go false q h = h
+
+  module _ (k : ℕ) (fs : List Field) (p : ℕ) (is : nameAt sheet p ≡ at 0 fs) (e : begun m ≡ false) where
+    pub stands-concept : t .counts .concepts < conceptLimit → Stands sheet (withConcept t p) m s (saying k x form.Concept fs)
+    stands-concept h =
+        record {
+          names = rw (entered-more sheet (t .counts .concepts) (t .concepts) p (omega (arith, places .concepts)), is, st .names);
+          marks = st .marks;
+          room = record { items = st .room .items; concepts = omega arith; roles = st .room .roles };
+          few = st .few;
+          long = st .long;
+          store = untouched (saying k x form.Concept fs) e;
+        }
+
+    pub stands-role : t .counts .roles < roleLimit → Stands sheet (withRole t p) m s (saying k x form.Role fs)
+    stands-role h =
+        record {
+          names = rw (entered-more sheet (t .counts .roles) (t .roles) p (omega (arith, places .roles)), is, st .names);
+          marks = st .marks;
+          room = record { items = st .room .items; concepts = st .room .concepts; roles = omega arith };
+          few = st .few;
+          long = st .long;
+          store = untouched (saying k x form.Role fs) e;
+        }
+
+    pub stands-item : t .counts .items < itemLimit width → Stands sheet (withItem t p) m s (saying k x form.Item fs)
+    stands-item h =
+        record {
+          names = rw (entered-more sheet (t .counts .items) (t .items) p (omega (arith, places .items)), is, st .names);
+          marks = st .marks;
+          room = record { items = omega arith; concepts = st .room .concepts; roles = st .room .roles };
+          few = st .few;
+          long = st .long;
+          store = untouched (saying k x form.Item fs) e;
+        }

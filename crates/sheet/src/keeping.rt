@@ -1,0 +1,40 @@
+ghost use mathlib.Core.Path.{_≡_};
+ghost use lib.ListN.{length};
+ghost use Rattle.closure.specs.Cell.{With, Within, cellOf};
+ghost use Rattle.closure.specs.Layout.{ClosedStore, Fits, Holds, size, width};
+ghost use Rattle.closure.specs.Promise.{Keeps};
+ghost use Rattle.sheet.specs.Fault.{begun as begunBy};
+ghost use Rattle.sheet.specs.Stands.{Begins};
+use crate::Marks;
+use closure::Counts;
+use closure::Statement;
+use closure::Store;
+
+// Whether a statement or a rule was accepted.
+pub fn begun(m: Marks) -> bool
+    ensures { λ r. ⌜ r ≡ begunBy m ⌝ }
+{
+    if m.stated {
+        return true;
+    }
+    0 < m.rules
+}
+
+// Makes the store fresh, unless a statement or a rule was accepted before.
+pub fn begin(words: &mut [u64], counts: Counts, m: Marks)
+    requires { ⌜ (length (now words) ≡ size width) × Fits width counts ⌝ }
+    ensures { λ _. ⌜ Begins (begunBy m) counts (now (words .entry)) (now (words .exit)) ⌝ }
+{
+    if begun(m) {
+        return;
+    }
+    Store::fresh(words, counts);
+}
+
+// Adds a statement to a closed store.
+pub fn state(words: &mut [u64], counts: Counts, s: Statement)
+    requires { ⌜ ClosedStore width counts (now words) × Within counts (cellOf s) ⌝ }
+    ensures { λ _. ⌜ Keeps width counts (With (Holds width counts (now (words .entry))) (cellOf s)) (now (words .exit)) ⌝ }
+{
+    closure::entry::apply(words, closure::entry::layout(), counts, s);
+}

@@ -1,0 +1,63 @@
+ghost use mathlib.Core.Path.{_≡_};
+ghost use lib.ListN.{getD};
+ghost use mathlib.Core.List.{[]};
+ghost use Rattle.text.specs.Split.{partsFrom};
+ghost use Prim.Native.Nat.{_≤_};
+ghost use Rattle.sheet.specs.Read.{at as fieldOf, conceptOf, itemOf, roleOf, roleUseOf};
+ghost use Rattle.sheet.specs.Said.{statementOf};
+ghost use Rattle.sheet.specs.Table.{Roomy, namesOf};
+use crate::StatementWord;
+use crate::Table;
+use closure::Concept;
+use closure::Item;
+use closure::Role;
+use closure::Statement;
+use rule::RoleUse;
+
+// The field with the number i among those from a place of the line on, from 0.
+pub fn nth(line: &[u8], from: usize, i: usize) -> &[u8]
+    ensures { λ r. ⌜ now r ≡ fieldOf i (partsFrom 9 (now (line .entry)) from) ⌝ }
+{
+    let mut at = from;
+    let mut k = i;
+    while 0 < k {
+        at = text::line::past(line, at);
+        k -= 1;
+    }
+    text::line::field(line, at)
+}
+
+// The concept that the field with the number i names.
+pub fn concept(sheet: &[u8], t: Table, line: &[u8], from: usize, i: usize) -> Concept
+    requires { ⌜ Roomy t ⌝ }
+    ensures { λ r. ⌜ r ≡ conceptOf (namesOf (now (sheet .entry)) t) (fieldOf i (partsFrom 9 (now (line .entry)) from)) ⌝ }
+{
+    Concept(crate::names::concept(sheet, t, nth(line, from, i)))
+}
+
+// The role that the field with the number i names.
+pub fn role(sheet: &[u8], t: Table, line: &[u8], from: usize, i: usize) -> Role
+    requires { ⌜ Roomy t ⌝ }
+    ensures { λ r. ⌜ r ≡ roleOf (namesOf (now (sheet .entry)) t) (fieldOf i (partsFrom 9 (now (line .entry)) from)) ⌝ }
+{
+    Role(crate::names::role(sheet, t, nth(line, from, i)))
+}
+
+// The item that the field with the number i names.
+pub fn item(sheet: &[u8], t: Table, line: &[u8], from: usize, i: usize) -> Item
+    requires { ⌜ Roomy t ⌝ }
+    ensures { λ r. ⌜ r ≡ itemOf (namesOf (now (sheet .entry)) t) (fieldOf i (partsFrom 9 (now (line .entry)) from)) ⌝ }
+{
+    Item(crate::names::item(sheet, t, nth(line, from, i)))
+}
+
+// The role or inverse that the field with the number i names.
+pub fn role_use(sheet: &[u8], t: Table, line: &[u8], from: usize, i: usize) -> RoleUse
+    requires { ⌜ Roomy t ⌝ }
+    ensures { λ r. ⌜ r ≡ roleUseOf (namesOf (now (sheet .entry)) t) (fieldOf i (partsFrom 9 (now (line .entry)) from)) ⌝ }
+{
+    let f = nth(line, from, i);
+    let inverse = crate::names::inverted(f);
+    let role = Role(crate::names::role(sheet, t, crate::names::plain(f)));
+    RoleUse { role, inverse }
+}
