@@ -15,8 +15,8 @@ use Rattle.sheet.specs.declared.Kept.{Kept}
 use Rattle.sheet.specs.declared.Marks.{Marks}
 use Rattle.sheet.specs.declared.Table.{Table}
 use Rattle.sheet.specs.Fault.{begun, lineFault, ruleLimit, sheetLimit}
-use Rattle.sheet.specs.Promise.{Stopped}
-use Rattle.sheet.specs.Said.{Outcome, Said, marksOf}
+use Rattle.sheet.specs.Promise.{Leaves, Stopped}
+use Rattle.sheet.specs.Said.{Outcome, Said, marksOf, outcome}
 use Rattle.sheet.specs.Said.Outcome.{accepted, refused}
 use Rattle.sheet.specs.Table.{Roomy, namesOf}
 
@@ -59,4 +59,15 @@ pub record Ends (sheet : List ℕ) (o : Outcome) (s : List ℕ) (r : Ended) : Ty
   pub said : Said
   pub stands : Stands sheet (r .kept .table) (r .kept .marks) s said
   pub ends : o ≡ ending (r .line) (r .why) said
+  pub near : r .line ≤ sheetLimit + 2
+  pub numbered : (r .why ≡ 0 → ⊥) → 1 ≤ r .line
+
+-- a whole sheet ended so: what is kept, and the lent words, s before and t afterwards
+pub record Opens (sheet s t : List ℕ) (r : Ended) : Type 0 where
+  pub said : Said
+  pub names : said .names ≡ namesOf sheet (r .kept .table)
+  pub marks : marksOf said ≡ r .kept .marks
+  pub room : Roomy (r .kept .table)
+  pub ends : outcome sheet ≡ ending (r .line) (r .why) said
+  pub leaves : Leaves (ending (r .line) (r .why) said) s t
   pub near : r .line ≤ sheetLimit + 2

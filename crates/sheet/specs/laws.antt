@@ -10,4 +10,5 @@ pub mod Entry
 pub mod Stands
 pub mod Taken
 pub mod Lines
+pub mod Sheets
 pub mod Readings

@@ -3,10 +3,14 @@ ghost use Prim.Native.Nat.{_≤_};
 ghost use lib.ListN.{length};
 ghost use Rattle.text.specs.Split.{partsFrom};
 ghost use Rattle.sheet.specs.Fault.{sheetLimit};
-ghost use Rattle.sheet.specs.Said.{nothing, outcomeFrom};
-ghost use Rattle.sheet.specs.Stands.{Ends, Stands};
+ghost use Rattle.closure.specs.Layout.{size, width};
+ghost use Rattle.sheet.specs.Said.{nothing, outcome, outcomeFrom};
+ghost use Rattle.sheet.specs.Stands.{Ends, Opens, Stands};
+ghost use Rattle.sheet.specs.laws.Sheets.{Blank};
 use crate::Ended;
 use crate::Kept;
+use crate::Marks;
+use crate::Sheet;
 
 // Reads the lines from a place of the sheet on, the first of which is line 2, up to the end or to the first faulty line.
 fn read_lines(sheet: &[u8], words: &mut [u64], from: usize, first: Kept) -> Ended
@@ -35,4 +39,56 @@ fn read_lines(sheet: &[u8], words: &mut [u64], from: usize, first: Kept) -> Ende
         why: 0,
         kept,
     }
+}
+
+// Nothing is kept yet.
+fn blank() -> Kept
+    ensures { λ r. ⌜ Blank r ⌝ }
+{
+    let table = crate::tables::empty();
+    let marks = Marks {
+        stated: false,
+        rules: 0,
+    };
+    Kept { table, marks }
+}
+
+// Reads the lines of a sheet that is not too long, up to the end or to the first faulty line.
+fn read_all(sheet: &[u8], words: &mut [u64]) -> Ended
+    requires { ⌜ (length (now sheet) ≤ sheetLimit) × (length (now words) ≡ size width) ⌝ }
+    ensures { λ r. ⌜ Ends (now (sheet .entry)) (outcome (now (sheet .entry))) (now (words .exit)) r ⌝ }
+{
+    row::change::zero_all(words);
+    let kept = blank();
+    let end = text::part::end_of(sheet, 0, 10);
+    let why = crate::lines::header_fault(text::part::part(sheet, 0, end));
+    if why == 0 {
+        return read_lines(sheet, words, end + 1, kept);
+    }
+    Ended { line: 1, why, kept }
+}
+
+// Reads a sheet into the lent store: its names, and what follows from its statements.
+pub fn fill(sheet: &[u8], words: &mut [u64]) -> Ended
+    requires { ⌜ length (now words) ≡ size width ⌝ }
+    ensures { λ r. ⌜ Opens (now (sheet .entry)) (now (words .entry)) (now (words .exit)) r ⌝ }
+{
+    if Sheet::BYTES < sheet.len() {
+        let kept = blank();
+        return Ended {
+            line: 0,
+            why: 9,
+            kept,
+        };
+    }
+    let r = read_all(sheet, words);
+    if r.why == 0 {
+        let kept = r.kept;
+        let table = kept.table;
+        let marks = kept.marks;
+        let counts = table.counts;
+        crate::keeping::begin(words, counts, marks);
+        return r;
+    }
+    r
 }

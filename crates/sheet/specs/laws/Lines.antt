@@ -1,5 +1,5 @@
 -- Laws of the lines of a sheet, one after the other. Assumes nothing.
-use mathlib.Core.Path.{_≡_, sym, _∙_}
+use mathlib.Core.Path.{_≡_, refl, sym, _∙_}
 use mathlib.Core.List.{List, _∷_}
 use Prim.Native.Nat.{ℕ, _+_, _-_, _≤_, _<_}
 use native.Mathlib.Omega.{arith}
@@ -21,12 +21,13 @@ pub record Reads (sheet : List ℕ) (o : Outcome) (at n : ℕ) (k : Kept) (s : L
   pub stands : Stands sheet (k .table) (k .marks) s said
   pub left : o ≡ outcomeFrom n said (partsFrom 10 sheet at)
   pub near : n ≤ at + 2
+  pub later : 2 ≤ n
 
 module _ {sheet : List ℕ} {o : Outcome} {at n : ℕ} {k : Kept} {s : List ℕ} (h : length sheet ≤ sheetLimit) (r : Reads sheet o at n k s) where
   -- no line is left
   pub reads-end : length sheet < at → Ends sheet o s (record { line = 0; why = 0; kept = k })
   unfolding outcomeFrom
-  reads-end g = record { said = r .said; stands = r .stands; ends = r .left ∙ rw (parts-none 10 sheet at g); near = omega arith }
+  reads-end g = record { said = r .said; stands = r .stands; ends = r .left ∙ rw (parts-none 10 sheet at g); near = omega arith; numbered = λ z. absurd (z refl) }
 
   -- a line, its end and its number of refusal
   module _ (e : ℕ) (line : List ℕ) (why : ℕ) (g : at ≤ length sheet) (ends : e ≡ endOf 10 sheet at) (is : line ≡ partOf sheet at (e - at))
@@ -52,6 +53,7 @@ module _ {sheet : List ℕ} {o : Outcome} {at n : ℕ} {k : Kept} {s : List ℕ}
           stands = more n (r .said) (r .stands);
           left = parted ∙ rw (eq-eqb _ _ (sym judged ∙ z));
           near = omega (arith, r .near, ends, end-ge 10 sheet at);
+          later = omega (arith, r .later);
         }
 
     pub reads-stop : (why ≡ 0 → ⊥) → Ends sheet o s (record { line = n; why = why; kept = k })
@@ -62,4 +64,5 @@ module _ {sheet : List ℕ} {o : Outcome} {at n : ℕ} {k : Kept} {s : List ℕ}
           stands = r .stands;
           ends = parted ∙ rw (← judged, ne-eqb why 0 z);
           near = omega (arith, r .near);
+          numbered = λ q. omega (arith, r .later);
         }

@@ -18,7 +18,7 @@ abbrev μ-loop : tie.MeasureT-loop
 μ-loop sheet words₀ from at₀ line₀ kept₀ words at line kept = length sheet + 1 - at
 
 loop-holds : tie.Need-loop-holds Inv-loop μ-loop
-loop-holds c = (record { said = nothing; stands = c .before .before .pre .1; left = refl; near = omega arith }, refl)
+loop-holds c = (record { said = nothing; stands = c .before .before .pre .1; left = refl; near = omega arith; later = omega arith }, refl)
 
 end-of-requires : tie.Need-end-of-requires Inv-loop μ-loop
 end-of-requires c κs = search needs
