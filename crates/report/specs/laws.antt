@@ -1,0 +1,5 @@
+-- What is proved of a sheet's rules.
+pub mod Laid
+pub mod Formed
+pub mod Reading
+pub mod Ruled

@@ -1,0 +1,1 @@
+// What is printed of a sheet: its rules, their findings, the text.
