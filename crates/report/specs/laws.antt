@@ -3,3 +3,4 @@ pub mod Laid
 pub mod Formed
 pub mod Reading
 pub mod Ruled
+pub mod Drafting

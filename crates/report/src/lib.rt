@@ -1,1 +1,11 @@
 // What is printed of a sheet: its rules, their findings, the text.
+pub mod lay;
+
+use rule::Slot;
+
+// A rule that is being read: the nodes laid so far, how many they are, and the place in the line.
+pub struct Draft {
+    pub nodes: [Slot; 32],
+    pub len: usize,
+    pub at: usize,
+}
