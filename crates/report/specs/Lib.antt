@@ -1,3 +1,4 @@
 -- What is printed of a sheet.
 pub mod Drafting
+pub mod Lines
 pub mod laws

@@ -4,3 +4,4 @@ pub mod Formed
 pub mod Reading
 pub mod Ruled
 pub mod Drafting
+pub mod Lines

@@ -1,5 +1,6 @@
 // What is printed of a sheet: its rules, their findings, the text.
 pub mod lay;
+pub mod print;
 
 use rule::Slot;
 
