@@ -6,6 +6,7 @@ use native.Mathlib.Nat.{add-suc, suc-add, add-zero}
 use native.Mathlib.Numerals.{add-one, sub-one}
 use native.Mathlib.Omega.{arith}
 use mathlib.Core.Logic.{by-cases}
+use mathlib.Core.Bool.{Bool, true, false, cond}
 use native.Mathlib.Decide.{decLe}
 use lib.ListN.{length, set, drop, getD, length-append}
 use lib.Seq.{sets, set-set, set-comm, drop-drop}
@@ -17,7 +18,8 @@ use Rattle.rule.specs.declared.Slot.{Slot}
 use Rattle.rule.specs.Form.{nodeLimit}
 use Rattle.rule.specs.Expr.{Expr, bot, either, some, every, atMost}
 use Rattle.rule.specs.Expr.Expr.{name, top, neg, both, many, own, one}
-use Rattle.text.specs.Bytes.{place}
+use Rattle.text.specs.Bytes.{between, place}
+use Rattle.text.specs.Date.{digit}
 use Rattle.text.specs.Split.{partsFrom, fieldFrom, pastField}
 use Rattle.text.specs.laws.Split.{fields-next, fields-none, field-none, past-none}
 use Rattle.sheet.specs.declared.Table.{Table}
@@ -30,6 +32,7 @@ use Rattle.sheet.specs.Table.{Roomy, namesOf}
 use Rattle.report.specs.declared.Draft.{Draft}
 use Rattle.report.specs.Drafting.{firstOf, secondOf, Drafted, Mended, Passed, Opened, Room, RoomBoth, Laid}
 use Rattle.report.specs.laws.Laid.{size-some, nodes-count}
+use Rattle.report.specs.laws.Reading.{between-bounds}
 
 -- ---- laying nodes
 
@@ -187,9 +190,9 @@ two-laid {line} {b} {o} {f} {m} {r} {x} {y} d v w z =
     let fl : f .len ≡ i + 1 + size c = omega (arith, v .len, d .len) in
     let fn : f .nodes ≡ sets (set (b .nodes) i (slot (node.And (i + 1) 0))) (i + 1) cs = v .nodes ∙ ap₂ (λ (l : List Slot) (j : ℕ). sets l j (map slot (nodesAt j c))) (d .nodes) (d .len) in
     let mn : m .nodes ≡ sets (b .nodes) i (map slot (node.And (i + 1) (i + 1 + size c) ∷ nodesAt (i + 1) c)) =
-        w .nodes ∙ ap₂ (λ (l : List Slot) (j : ℕ). set l i (slot (node.And (i + 1) j))) fn fl
-        ∙ set-back (set (b .nodes) i (slot (node.And (i + 1) 0))) i (i + 1) a cs (omega arith)
-        ∙ ap₂ (λ (l : List Slot) (j : ℕ). sets l j cs) (set-set (b .nodes) i (slot (node.And (i + 1) 0)) a) (add-one i) in
+    w .nodes ∙ ap₂ (λ (l : List Slot) (j : ℕ). set l i (slot (node.And (i + 1) j))) fn fl
+    ∙ set-back (set (b .nodes) i (slot (node.And (i + 1) 0))) i (i + 1) a cs (omega arith)
+    ∙ ap₂ (λ (l : List Slot) (j : ℕ). sets l j cs) (set-set (b .nodes) i (slot (node.And (i + 1) 0)) a) (add-one i) in
     let long : i + length (node.And (i + 1) (i + 1 + size c) ∷ nodesAt (i + 1) c) ≡ i + 1 + size c = omega (arith, nodes-count (i + 1) c) in
     record {
       nodes = z .nodes ∙ ap₂ (λ (l : List Slot) (j : ℕ). sets l j (map slot (nodesAt j e))) mn (w .len ∙ fl)
@@ -299,3 +302,92 @@ unfolding nodesAt
 laid-name b {line} {c} {r} n k f h j q =
     let e : k ≡ place (at 0 (partsFrom 9 line (b .at))) (n .concepts) = j ∙ ap (λ (g : Field). place g (n .concepts)) (h ∙ field-is line (b .at)) in
     laid-leaf (name (conceptOf n (at 0 (partsFrom 9 line (b .at))))) (opened-laid line (subst (λ (i : ℕ). Drafted c r (node.Name (record { 0 = i }) ∷ [])) e q)) refl
+
+-- ---- no word left
+
+pub room-zero : {sheet line : List ℕ} {t : Table} {left : ℕ} {b : Draft} → left ≡ 0 → Room sheet line t left b → b .len + size top ≤ nodeLimit
+unfolding read
+room-zero {sheet} {line} {t} {left} {b} e r = subst (λ (k : ℕ). b .len + size (read k (namesOf sheet t) (partsFrom 9 line (b .at)) .expr) ≤ nodeLimit) e (r .nodes)
+
+pub zero-laid : (left : ℕ) (n : Names) {line : List ℕ} {b r : Draft} → left ≡ 0 → Drafted b r (node.Top ∷ []) → Laid line b r (read left n (partsFrom 9 line (b .at)))
+unfolding read
+zero-laid left n {line} {b} {r} e q = subst (λ (k : ℕ). Laid line b r (read k n (partsFrom 9 line (b .at)))) (sym e) (laid-top q)
+
+-- a count is at most 255
+pub count-small : (f : Field) → countOf f ≤ 255
+unfolding digit
+count-small f = go (between 48 (getD f 0 0) 57) refl
+  where
+    go : (p : Bool) → between 48 (getD f 0 0) 57 ≡ p → cond p (getD f 0 0 - 48) 255 ≤ 255
+    go false e = omega arith
+    go true e = let h = between-bounds 48 (getD f 0 0) 57 e in omega arith
+
+-- ---- two expressions
+
+module _ (sheet : List ℕ) (t : Table) (left : ℕ) (line : List ℕ) {b : Draft} where
+  -- after an and is laid
+  pub first-room : {o : Draft} → RoomBoth sheet line t left 1 b → Drafted b o (node.And (b .len + 1) 0 ∷ []) → Room sheet line t left o
+  first-room {o} r d = record {
+    table = r .table;
+    nodes = subst (λ (p : ℕ). o .len + size (read left (namesOf sheet t) (partsFrom 9 line p) .expr) ≤ nodeLimit) (sym (d .at)) (let h = r .nodes in omega (arith, d .len));
+  }
+
+  pub second-room : {o f m : Draft} {x : Node} → RoomBoth sheet line t left 1 b → Drafted b o (node.And (b .len + 1) 0 ∷ []) → Laid line o f (read left (namesOf sheet t) (partsFrom 9 line (o .at))) → Mended f m (b .len) x
+      → Room sheet line t left m
+  second-room {o} {f} {m} r d v w =
+      let n : Names = namesOf sheet t in
+      let v′ : Laid line o f (read left n (partsFrom 9 line (b .at))) = subst (λ (p : ℕ). Laid line o f (read left n (partsFrom 9 line p))) (d .at) v in
+      let rest : partsFrom 9 line (m .at) ≡ read left n (partsFrom 9 line (b .at)) .rest = ap (partsFrom 9 line) (w .at) ∙ v′ .rest in
+      record {
+        table = r .table;
+        nodes = subst (λ (gs : List Field). m .len + size (read left n gs .expr) ≤ nodeLimit) (sym rest) (let h = r .nodes in omega (arith, w .len, v′ .len, d .len));
+      }
+
+  pub and-laid : {o f m r : Draft} → Drafted b o (node.And (b .len + 1) 0 ∷ []) → Laid line o f (read left (namesOf sheet t) (partsFrom 9 line (o .at))) → Mended f m (b .len) (node.And (b .len + 1) (f .len))
+      → Laid line m r (read left (namesOf sheet t) (partsFrom 9 line (m .at))) → Laid line b r (ofTwo both (read left (namesOf sheet t)) (partsFrom 9 line (b .at)))
+  and-laid {o} {f} {m} {r} d v w z =
+      let n : Names = namesOf sheet t in
+      let v′ : Laid line o f (read left n (partsFrom 9 line (b .at))) = subst (λ (p : ℕ). Laid line o f (read left n (partsFrom 9 line p))) (d .at) v in
+      let rest : partsFrom 9 line (m .at) ≡ read left n (partsFrom 9 line (b .at)) .rest = ap (partsFrom 9 line) (w .at) ∙ v′ .rest in
+      two-laid d v′ w (subst (λ (gs : List Field). Laid line m r (read left n gs)) rest z)
+
+  -- after a not of an and of nots is laid
+  module _ {q o p : Draft} (dq : Drafted b q (node.Not (b .len + 1) ∷ [])) (da : Drafted q o (node.And (q .len + 1) 0 ∷ [])) (dp : Drafted o p (node.Not (o .len + 1) ∷ [])) where
+    here : p .at ≡ b .at
+    here = dp .at ∙ da .at ∙ dq .at
+
+    third : p .len ≡ b .len + 3
+    third = omega (arith, dp .len, da .len, dq .len)
+
+    pub or-first-room : RoomBoth sheet line t left 4 b → Room sheet line t left p
+    or-first-room r = record {
+      table = r .table;
+      nodes = subst (λ (i : ℕ). p .len + size (read left (namesOf sheet t) (partsFrom 9 line i) .expr) ≤ nodeLimit) (sym here) (let h = r .nodes in omega (arith, third));
+    }
+
+    module _ {f m : Draft} {x : Node} (v : Laid line p f (read left (namesOf sheet t) (partsFrom 9 line (p .at)))) (w : Mended f m (q .len) x) where
+      first-laid : Laid line p f (read left (namesOf sheet t) (partsFrom 9 line (b .at)))
+      first-laid = subst (λ (i : ℕ). Laid line p f (read left (namesOf sheet t) (partsFrom 9 line i))) here v
+
+      after-first : m .len ≡ b .len + 3 + size (read left (namesOf sheet t) (partsFrom 9 line (b .at)) .expr)
+      after-first = omega (arith, w .len, first-laid .len, third)
+
+      second-fields : partsFrom 9 line (m .at) ≡ read left (namesOf sheet t) (partsFrom 9 line (b .at)) .rest
+      second-fields = ap (partsFrom 9 line) (w .at) ∙ first-laid .rest
+
+      pub or-between : RoomBoth sheet line t left 4 b → m .len < nodeLimit
+      or-between r = let h = r .nodes in omega (arith, after-first)
+
+      pub or-second-room : {g : Draft} → Drafted m g (node.Not (m .len + 1) ∷ []) → RoomBoth sheet line t left 4 b → Room sheet line t left g
+      or-second-room {g} dg r = record {
+        table = r .table;
+        nodes = subst (λ (gs : List Field). g .len + size (read left (namesOf sheet t) gs .expr) ≤ nodeLimit) (sym (ap (partsFrom 9 line) (dg .at) ∙ second-fields)) (let h = r .nodes in omega (arith, dg .len, after-first));
+      }
+
+    pub or-laid : {f m g r : Draft} → Laid line p f (read left (namesOf sheet t) (partsFrom 9 line (p .at))) → Mended f m (q .len) (node.And (q .len + 1) (f .len)) → Drafted m g (node.Not (m .len + 1) ∷ [])
+        → Laid line g r (read left (namesOf sheet t) (partsFrom 9 line (g .at))) → Laid line b r (ofTwo either (read left (namesOf sheet t)) (partsFrom 9 line (b .at)))
+    or-laid {f} {m} {g} {r} v w dg z =
+        let n : Names = namesOf sheet t in
+        let z′ : Laid line g r (read left n (read left n (partsFrom 9 line (b .at)) .rest)) = subst (λ (gs : List Field). Laid line g r (read left n gs)) (ap (partsFrom 9 line) (dg .at) ∙ second-fields v w) z in
+        laid-wrap (lays-not (b .len)) (opened-laid line dq)
+        (two-laid da (laid-wrap (lays-not (o .len)) (opened-laid line dp) (first-laid v w)) w (laid-wrap (lays-not (m .len)) (opened-laid line dg) z′))

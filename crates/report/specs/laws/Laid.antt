@@ -82,10 +82,14 @@ uses-outside top i j h = refl
 uses-outside (neg c) i j h =
     omega (arith, hit-other (i + 1) j (λ e. ⊎-elim (λ l. omega arith) (λ l. omega (arith, size-some c)) h), uses-outside c (i + 1) j (⊎-elim (λ l. inl (omega arith)) (λ l. inr (omega arith)) h))
 uses-outside (both c d) i j h =
-    omega (arith, hit-other (i + 1) j (λ e. ⊎-elim (λ l. omega arith) (λ l. omega (arith, size-some c)) h),
-    hit-other (i + 1 + size c) j (λ e. ⊎-elim (λ l. omega arith) (λ l. omega (arith, size-some d)) h),
-    uses-append (nodesAt (i + 1) c) (nodesAt (i + 1 + size c) d) j,
-    uses-outside c (i + 1) j (⊎-elim (λ l. inl (omega arith)) (λ l. inr (omega arith)) h), uses-outside d (i + 1 + size c) j (⊎-elim (λ l. inl (omega arith)) (λ l. inr (omega arith)) h))
+    omega (
+      arith,
+      hit-other (i + 1) j (λ e. ⊎-elim (λ l. omega arith) (λ l. omega (arith, size-some c)) h),
+      hit-other (i + 1 + size c) j (λ e. ⊎-elim (λ l. omega arith) (λ l. omega (arith, size-some d)) h),
+      uses-append (nodesAt (i + 1) c) (nodesAt (i + 1 + size c) d) j,
+      uses-outside c (i + 1) j (⊎-elim (λ l. inl (omega arith)) (λ l. inr (omega arith)) h),
+      uses-outside d (i + 1 + size c) j (⊎-elim (λ l. inl (omega arith)) (λ l. inr (omega arith)) h),
+    )
 uses-outside (many k u c) i j h =
     omega (arith, hit-other (i + 1) j (λ e. ⊎-elim (λ l. omega arith) (λ l. omega (arith, size-some c)) h), uses-outside c (i + 1) j (⊎-elim (λ l. inl (omega arith)) (λ l. inr (omega arith)) h))
 uses-outside (own u) i j h = refl
@@ -104,12 +108,16 @@ uses-inside (both c d) i j l h = by-cases (ℕ-discrete (i + 1) j) first
   where
     apart : usesOf (nodesAt (i + 1) c ++ nodesAt (i + 1 + size c) d) j ≡ usesOf (nodesAt (i + 1) c) j + usesOf (nodesAt (i + 1 + size c) d) j
     apart = uses-append (nodesAt (i + 1) c) (nodesAt (i + 1 + size c) d) j
+
     first : i + 1 ≡ j → uses (node.And (i + 1) (i + 1 + size c)) j + usesOf (nodesAt (i + 1) c ++ nodesAt (i + 1 + size c) d) j ≡ 1
     first e = omega (arith, apart, size-some c, hit-same (i + 1) j e, hit-other (i + 1 + size c) j (λ f. omega (arith, size-some c)), uses-outside c (i + 1) j (inl (omega arith)), uses-outside d (i + 1 + size c) j (inl (omega (arith, size-some c))))
+
     second : ¬ (i + 1 ≡ j) → i + 1 + size c ≡ j → uses (node.And (i + 1) (i + 1 + size c)) j + usesOf (nodesAt (i + 1) c ++ nodesAt (i + 1 + size c) d) j ≡ 1
     second n e = omega (arith, apart, hit-other (i + 1) j n, hit-same (i + 1 + size c) j e, uses-outside c (i + 1) j (inr (omega arith)), uses-outside d (i + 1 + size c) j (inl (omega arith)))
+
     left : ¬ (i + 1 ≡ j) → ¬ (i + 1 + size c ≡ j) → j < i + 1 + size c → usesOf (nodesAt (i + 1) c) j ≡ 1 → uses (node.And (i + 1) (i + 1 + size c)) j + usesOf (nodesAt (i + 1) c ++ nodesAt (i + 1 + size c) d) j ≡ 1
     left n m q z = omega (arith, apart, z, hit-other (i + 1) j n, hit-other (i + 1 + size c) j m, uses-outside d (i + 1 + size c) j (inl (omega arith)))
+
     right : ¬ (i + 1 ≡ j) → ¬ (i + 1 + size c ≡ j) → ¬ (j < i + 1 + size c) → usesOf (nodesAt (i + 1 + size c) d) j ≡ 1 → uses (node.And (i + 1) (i + 1 + size c)) j + usesOf (nodesAt (i + 1) c ++ nodesAt (i + 1 + size c) d) j ≡ 1
     right n m q z = omega (arith, apart, z, hit-other (i + 1) j n, hit-other (i + 1 + size c) j m, uses-outside c (i + 1) j (inr (omega arith)))
 uses-inside (many k u c) i j l h = by-cases (ℕ-discrete (i + 1) j)

@@ -64,7 +64,7 @@ name-known names f e =
     let b = fault-none (not (declared f names)) 19 0 (λ q. omega arith) (a .1) in
     ltb-true (place f names) (length names) (not-none (declared f names) (b .0))
 
-between-bounds : (a b c : ℕ) → between a b c ≡ true → (a ≤ b) × (b ≤ c)
+pub between-bounds : (a b c : ℕ) → between a b c ≡ true → (a ≤ b) × (b ≤ c)
 between-bounds a b c e = go (leb a b) refl e
   where
     go : (p : Bool) → leb a b ≡ p → cond p (leb b c) false ≡ true → (a ≤ b) × (b ≤ c)

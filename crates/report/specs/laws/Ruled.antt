@@ -87,12 +87,13 @@ module _ (n : Names) where
   rule-formed rule.Chain fs r l =
       let a = chain-due (length fs) fs refl r in
       let three = a .0 in
-      formed-bare (countsOf n) (chainOf n fs) (let x = a .1 in (omega arith, omega arith))
-        ( (λ _. a .2 0 (omega arith))
-        , (λ _. a .2 1 (omega arith))
-        , (λ _. a .2 2 (omega arith))
-        , (λ h. a .2 3 (omega arith))
-        , a .2 (length fs - 1) (omega arith))
+      formed-bare (countsOf n) (chainOf n fs) (let x = a .1 in (omega arith, omega arith)) (
+        (λ _. a .2 0 (omega arith)),
+        (λ _. a .2 1 (omega arith)),
+        (λ _. a .2 2 (omega arith)),
+        (λ h. a .2 3 (omega arith)),
+        a .2 (length fs - 1) (omega arith),
+      )
   rule-formed rule.Ref fs r l = let a = roles-due 1 fs r .1 in formed-bare (countsOf n) (head.Ref (roleUseOf n (at 0 fs))) tt (a 0 (omega arith))
   rule-formed rule.Irr fs r l = let a = roles-due 1 fs r .1 in formed-bare (countsOf n) (head.Irr (roleUseOf n (at 0 fs))) tt (a 0 (omega arith))
   rule-formed rule.Dis fs r l = let a = two-roles fs r in formed-bare (countsOf n) (head.Dis (roleUseOf n (at 0 fs)) (roleUseOf n (at 1 fs))) tt a
