@@ -8,4 +8,5 @@ pub mod Said
 pub mod Promise
 pub mod Table
 pub mod Stands
+pub mod Nodes
 pub mod laws

@@ -11,4 +11,7 @@ pub mod Stands
 pub mod Taken
 pub mod Lines
 pub mod Sheets
+pub mod Read
+pub mod Nodes
+pub mod Parse
 pub mod Readings

@@ -1,5 +1,6 @@
 // Sheets: what their lines say, what is wrong with them, and what is printed.
 pub mod dues;
+pub mod expressions;
 pub mod faults;
 pub mod keeping;
 pub mod lines;
@@ -13,6 +14,7 @@ pub mod walk;
 pub mod words;
 
 use closure::Counts;
+use rule::Slot;
 
 // The words of concept expressions; None is any other field.
 pub enum Operator {
@@ -155,6 +157,13 @@ pub struct Ended {
     pub line: usize,
     pub why: usize,
     pub kept: Kept,
+}
+
+// The nodes of expressions read so far, how many they are, and the place in the line past them.
+pub struct Parsed {
+    pub nodes: [Slot; 32],
+    pub len: usize,
+    pub at: usize,
 }
 
 // What reading a sheet gives.

@@ -1,5 +1,6 @@
 ghost use mathlib.Core.Path.{_≡_};
 ghost use mathlib.Core.List.{map};
+ghost use Prim.Native.Nat.{_≤_};
 ghost use Rattle.text.specs.Bytes.{place, same};
 ghost use Rattle.sheet.specs.Names.{inverted as invertedOf, plain as plainOf, countOf};
 ghost use Rattle.sheet.specs.Table.{Placed, Roomy, nameAt, namesOf};
@@ -84,7 +85,7 @@ pub fn plain(f: &[u8]) -> &[u8]
 
 // The value of a count, or 255.
 pub fn count(f: &[u8]) -> usize
-    ensures { λ r. ⌜ r ≡ countOf (now (f .entry)) ⌝ }
+    ensures { λ r. ⌜ (r ≡ countOf (now (f .entry))) × (r ≤ 255) ⌝ }
 {
     if 0 < f.len() {
         return text::date::digit(f[0]) as usize;

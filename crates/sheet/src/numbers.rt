@@ -1,17 +1,12 @@
 ghost use mathlib.Core.Path.{_≡_};
-ghost use lib.ListN.{getD};
-ghost use mathlib.Core.List.{[]};
+ghost use lib.ListN.{drop};
 ghost use Rattle.text.specs.Split.{partsFrom};
-ghost use Prim.Native.Nat.{_≤_};
 ghost use Rattle.sheet.specs.Read.{at as fieldOf, conceptOf, itemOf, roleOf, roleUseOf};
-ghost use Rattle.sheet.specs.Said.{statementOf};
 ghost use Rattle.sheet.specs.Table.{Roomy, namesOf};
-use crate::StatementWord;
 use crate::Table;
 use closure::Concept;
 use closure::Item;
 use closure::Role;
-use closure::Statement;
 use rule::RoleUse;
 
 // The field with the number i among those from a place of the line on, from 0.
@@ -60,4 +55,17 @@ pub fn role_use(sheet: &[u8], t: Table, line: &[u8], from: usize, i: usize) -> R
     let inverse = crate::names::inverted(f);
     let role = Role(crate::names::role(sheet, t, crate::names::plain(f)));
     RoleUse { role, inverse }
+}
+
+// The place past so many fields from a place of the line on.
+pub fn skip(line: &[u8], from: usize, count: usize) -> usize
+    ensures { λ r. ⌜ partsFrom 9 (now (line .entry)) r ≡ drop count (partsFrom 9 (now (line .entry)) from) ⌝ }
+{
+    let mut at = from;
+    let mut k = count;
+    while 0 < k {
+        at = text::line::past(line, at);
+        k -= 1;
+    }
+    at
 }

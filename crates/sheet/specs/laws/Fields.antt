@@ -1,9 +1,10 @@
 -- Laws of fields by their number. Assumes nothing.
-use mathlib.Core.Path.{_≡_}
+use mathlib.Core.Path.{_≡_, sym}
 use mathlib.Core.List.{List}
 use Prim.Native.Nat.{ℕ, zero, suc, _-_, _≤_, _<_}
 use native.Mathlib.Omega.{arith}
-use lib.ListN.{length}
+use lib.ListN.{drop, length}
+use lib.Seq.{drop-nil}
 use Rattle.text.specs.Split.{fieldFrom, partsFrom, pastField}
 use Rattle.text.specs.laws.Choice.{le-cases}
 use Rattle.text.specs.laws.Split.{field-none, fields-next, fields-none, past-none}
@@ -21,3 +22,13 @@ module _ (line : List ℕ) (from : ℕ) where
       let z : suc k - 1 ≡ k = omega arith in
       rw (z, q)
       (le-cases from (length line) (λ g. rw (fields-next line from g)) (λ g. rw (past-none line from g) (rw (fields-none line from g))))
+
+  pub skip-first : (k : ℕ) → k ≤ 0 → partsFrom 9 line from ≡ drop k (partsFrom 9 line from)
+  skip-first k h = let z : k ≡ 0 = omega arith in rw z
+
+  pub skip-later : (k past : ℕ) → 0 < k → past ≡ pastField line from → drop k (partsFrom 9 line from) ≡ drop (k - 1) (partsFrom 9 line past)
+  skip-later zero past h q = absurd (omega arith)
+  skip-later (suc k) past h q =
+      let z : suc k - 1 ≡ k = omega arith in
+      rw (z, q)
+      (le-cases from (length line) (λ g. rw (fields-next line from g)) (λ g. rw (past-none line from g) (rw (fields-none line from g) (sym (drop-nil k)))))

@@ -13,7 +13,7 @@ use lib.Seq.{sets, drop-cons}
 use Rattle.text.specs.Text.{digits, decimal, Wrote}
 
 -- writing one text after the other
-pub sets-append : (l : List ℕ) (i : ℕ) (u v : List ℕ) → sets l i (u ++ v) ≡ sets (sets l i u) (i + length u) v
+pub sets-append : {A : Type 0} (l : List A) (i : ℕ) (u v : List A) → sets l i (u ++ v) ≡ sets (sets l i u) (i + length u) v
 sets-append l i [] v = rw add-zero
 sets-append l i (a ∷ u) v =
     let k : suc i + length u ≡ i + suc (length u) = omega arith in

@@ -9,13 +9,13 @@ count-requires : tie.Need-count-requires
 count-requires c κs = search needs
 
 returns : tie.Need-returns
-returns c = simp (eq-eqb _ _ (c .before .before .if1 .taken), sym (c .before .count .ensures), lt-leb _ _ (c .if2 .taken))
+returns c = simp (eq-eqb _ _ (c .before .before .if1 .taken), sym (c .before .count .ensures .0), lt-leb _ _ (c .if2 .taken))
 
 returns-2 : tie.Need-returns-2
-returns-2 c = simp (eq-eqb _ _ (c .before .before .before .if1 .taken), sym (c .before .before .count .ensures), le-leb _ _ (c .before .if2 .left), lt-leb _ _ (c .if3 .taken))
+returns-2 c = simp (eq-eqb _ _ (c .before .before .before .if1 .taken), sym (c .before .before .count .ensures .0), le-leb _ _ (c .before .if2 .left), lt-leb _ _ (c .if3 .taken))
 
 returns-3 : tie.Need-returns-3
-returns-3 c = simp (eq-eqb _ _ (c .before .before .before .if1 .taken), sym (c .before .before .count .ensures), le-leb _ _ (c .before .if2 .left), le-leb _ _ (c .if3 .left))
+returns-3 c = simp (eq-eqb _ _ (c .before .before .before .if1 .taken), sym (c .before .before .count .ensures .0), le-leb _ _ (c .before .if2 .left), le-leb _ _ (c .if3 .left))
 
 returns-4 : tie.Need-returns-4
 returns-4 c = simp (ne-eqb _ _ (c .if1 .left))

@@ -1,4 +1,5 @@
 -- `sheet::names::count` meets its contract. Assumes nothing.
+use native.Mathlib.Omega.{arith}
 use Rattle.sheet.specs.laws.Names.{count-none}
 use borrow.Author.Needs.{needs}
 use Rattle.sheet.proofs.names.count.Statement.{statement}
@@ -17,7 +18,7 @@ returns : tie.Need-returns
 returns c = search needs
 
 returns-2 : tie.Need-returns-2
-returns-2 c = count-none (c .before .before .args .f .now) (c .if1 .left)
+returns-2 c = (count-none (c .before .before .args .f .now) (c .if1 .left), omega arith)
 
 pub count-spec : {M : Type 1} → statement M
 count-spec =
