@@ -9,7 +9,8 @@ use Rattle.text.specs.Split.{partsFrom}
 use Rattle.rule.specs.Form.{nodeLimit}
 use Rattle.sheet.specs.declared.Due.{Due}
 use Rattle.sheet.specs.declared.Due.the-variants as due
-use Rattle.sheet.specs.Due.{fits}
+use Rattle.sheet.specs.declared.RuleWord.{RuleWord}
+use Rattle.sheet.specs.Due.{dues as duesOf, fits, ruleLineup}
 use Rattle.rule.specs.declared.Node.{Node}
 use Rattle.rule.specs.declared.Node.the-variants as node
 use Rattle.sheet.specs.declared.Operator.{Operator}
@@ -109,3 +110,8 @@ pub record WordTaken (n : Names) (line : List ℕ) (o : Operator) (p r : Parsed)
   pub nodes : r .nodes ≡ puttingAll p (headNodes n o (p .len) (partsFrom 9 line (p .at))) .nodes
   pub len : r .len ≡ puttingAll p (headNodes n o (p .len) (partsFrom 9 line (p .at))) .len
   pub rest : partsFrom 9 line (r .at) ≡ drop (headFields o) (partsFrom 9 line (p .at))
+
+-- the fields after a rule word are those that are due, with no more nodes than a rule may have
+pub record RuleReady (w : RuleWord) (fs : List Field) : Type 0 where
+  pub fit : fits (duesOf (ruleLineup w (length fs))) fs ≡ true
+  pub room : nodesIn (duesOf (ruleLineup w (length fs))) fs ≤ nodeLimit

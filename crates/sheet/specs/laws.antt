@@ -14,4 +14,5 @@ pub mod Sheets
 pub mod Read
 pub mod Nodes
 pub mod Parse
+pub mod Rules
 pub mod Readings

@@ -179,7 +179,7 @@ fn take_word(sheet: &[u8], t: Table, line: &[u8], p: Parsed, o: Operator) -> Par
 }
 
 // Reads the expression at the place of p, of at most `left` words in depth, and writes its nodes after those of p.
-fn read_expr(sheet: &[u8], t: Table, line: &[u8], p: Parsed, left: usize) -> Parsed
+pub fn read_expr(sheet: &[u8], t: Table, line: &[u8], p: Parsed, left: usize) -> Parsed
     requires { ⌜ Roomy t × Ready (partsFrom 9 (now line) (p .at)) (p .len) left ⌝ }
     ensures { λ r. ⌜ ReadsOne (namesOf (now (sheet .entry)) t) (now (line .entry)) left p r ⌝ }
 {

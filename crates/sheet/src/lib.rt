@@ -6,6 +6,7 @@ pub mod keeping;
 pub mod lines;
 pub mod names;
 pub mod numbers;
+pub mod rules;
 pub mod sheets;
 pub mod statements;
 pub mod tables;

@@ -159,7 +159,7 @@ size-some (own u) = omega arith
 size-some (one a) = omega arith
 
 -- two runs of stores, one after the other
-sets-both : (arr : List Slot) (i : ℕ) (xs ys : List Node) → sets (sets arr i (map slot xs)) (i + length xs) (map slot ys) ≡ sets arr i (map slot (xs ++ ys))
+pub sets-both : (arr : List Slot) (i : ℕ) (xs ys : List Node) → sets (sets arr i (map slot xs)) (i + length xs) (map slot ys) ≡ sets arr i (map slot (xs ++ ys))
 sets-both arr i xs ys = sym (rw (map-append xs ys, sets-append arr i (map slot xs) (map slot ys), length-map))
 
 read-step : (n : Names) (left : ℕ) (fs : List Field) → (left ≡ 0 → ⊥) → read left n fs ≡ byWord n (read (left - 1) n) (operatorOf (at 0 fs)) (at 0 fs) (drop 1 fs)
