@@ -5,3 +5,4 @@ pub mod Reading
 pub mod Ruled
 pub mod Drafting
 pub mod Lines
+pub mod Written

@@ -1,14 +1,16 @@
 // The printed lines of a sheet.
 ghost use mathlib.Core.Path.{_≡_};
 ghost use mathlib.Core.List.{[]};
-ghost use Prim.Native.Nat.{_+_, _<_, _≤_};
+ghost use Prim.Native.Nat.{_*_, _+_, _<_, _≤_};
 ghost use lib.ListN.{getD};
+ghost use Rattle.rule.specs.Search.{Ready};
 ghost use Rattle.text.specs.Text.{decimal, Wrote};
 ghost use Rattle.sheet.specs.Promise.{refusedText, secondText, tabbed, totalText};
 ghost use Rattle.sheet.specs.Table.{nameAt, namesOf};
-ghost use Rattle.report.specs.Lines.{lineText};
+ghost use Rattle.report.specs.Lines.{RuleLines, lineText};
 use closure::Item;
 use rule::Finding;
+use rule::Search;
 use rule::Second;
 use sheet::Table;
 
@@ -100,4 +102,30 @@ pub fn finding(sheet: &[u8], t: Table, line: usize, f: Finding, room: &mut [u8],
     let first = put_name(sheet, t, item, room, number);
     let second = put_second(sheet, t, other, room, first);
     text::write::put(room, second, 10)
+}
+
+// Writes the first n findings from the search on, of the rule in a line.
+pub fn findings(
+    sheet: &[u8],
+    t: Table,
+    line: usize,
+    n: usize,
+    words: &[u64],
+    first: Search,
+    room: &mut [u8],
+    at: usize,
+) -> usize
+    requires { ⌜ (n ≤ 200) × (at < 700000) × (0 < n → Ready (now words) first) ⌝ }
+    ensures { λ r. ⌜ (RuleLines (now (words .entry)) first n (namesOf (now (sheet .entry)) t) line (now (room .entry)) at (now (room .exit)) r) × (r ≤ at + 93 * n) ⌝ }
+{
+    let mut c = first;
+    let mut p = at;
+    let mut i = 0;
+    while i < n {
+        let f = c.finding;
+        p = finding(sheet, t, line, f, room, p);
+        c = rule::seek::step(words, c);
+        i += 1;
+    }
+    p
 }
