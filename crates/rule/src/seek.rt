@@ -75,8 +75,8 @@ fn lesser(a: usize, b: usize) -> usize
     b
 }
 
-// What a listing needs, in a closed store.
-fn start(
+// What a listing needs, in a store that is known to be closed: a part of the entry points, for those who keep one store for many rules.
+pub fn start(
     words: &[u64],
     at: Layout,
     counts: Counts,
