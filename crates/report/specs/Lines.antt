@@ -1,15 +1,23 @@
 -- The printed lines of one rule's findings.
+use mathlib.Core.Path.{_≡_}
 use mathlib.Core.List.{List, [], _∷_, _++_, map}
-use Prim.Native.Nat.{ℕ, _≤_}
+use Prim.Native.Nat.{ℕ, _+_, _*_, _-_, _≤_, _<_}
 use lib.ListN.{length, getD, take}
+use Rattle.closure.specs.declared.Counts.{Counts}
+use Rattle.closure.specs.Layout.{ClosedStore, Holds, width}
 use Rattle.rule.specs.declared.Finding.{Finding}
+use Rattle.rule.specs.declared.Rule.{Rule}
 use Rattle.rule.specs.declared.Search.{Search}
+use Rattle.rule.specs.declared.Total.{Total}
+use Rattle.rule.specs.declared.Total.the-variants.{Count, Refused}
+use Rattle.rule.specs.Findings.{Findings}
 use Rattle.rule.specs.Search.{Coming}
 use Rattle.text.specs.Bytes.{bytes}
 use Rattle.text.specs.Text.{decimal, Wrote}
 use Rattle.sheet.specs.Names.{Names}
-use Rattle.sheet.specs.Promise.{secondText, tabbed}
+use Rattle.sheet.specs.Promise.{printLimit, secondText, tabbed}
 use Rattle.sheet.specs.Said.{Said, SheetRule}
+use Rattle.report.specs.declared.Tally.{Tally}
 
 -- the line number of the rule with the number k
 abbrev pub lineOf : Said → ℕ → ℕ
@@ -27,3 +35,28 @@ linesText n line (f ∷ fs) = lineText n line f ++ linesText n line fs
 -- the first n of the findings that come were written, of the rule in a line
 pub record RuleLines (s : List ℕ) (first : Search) (n : ℕ) (names : Names) (line : ℕ) (room : List ℕ) (at : ℕ) (exit : List ℕ) (r : ℕ) : Type 0 where
   pub wrote : (fs : List Finding) → Coming s first fs → n ≤ length fs → Wrote room at (linesText names line (take n fs)) exit r
+
+-- the findings that an answer counts
+abbrev pub countedIn : Total → ℕ
+countedIn (Count m) = m
+countedIn (Refused k) = 0
+
+-- the most bytes of a finding's line
+abbrev pub lineLimit : ℕ
+lineLimit = 93
+
+-- one rule more can be printed and counted: the store s is closed, and the place and the total are small
+pub record Tallying (s : List ℕ) (n : Counts) (b : Tally) : Type 0 where
+  pub store : ClosedStore width n s
+  pub left : b .left ≤ printLimit
+  pub at : b .at < 500000
+  pub total : b .total < 100000000
+
+-- the findings of the rule u, with the number k and in a line: as many as were left to print are written, and all are counted
+pub record Tallied (s : List ℕ) (n : Counts) (k : ℕ) (u : Rule) (names : Names) (line : ℕ) (room : List ℕ) (b : Tally) (exit : List ℕ) (r : Tally) : Type 0 where
+  pub list : List Finding
+  pub findings : Findings (Holds width n s) n k u list
+  pub wrote : Wrote room (b .at) (linesText names line (take (b .left) list)) exit (r .at)
+  pub left : r .left ≡ b .left - length list
+  pub total : r .total ≡ b .total + length list
+  pub short : r .at + lineLimit * r .left ≤ b .at + lineLimit * b .left

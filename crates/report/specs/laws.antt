@@ -6,3 +6,5 @@ pub mod Ruled
 pub mod Drafting
 pub mod Lines
 pub mod Written
+pub mod Few
+pub mod Tally

@@ -10,3 +10,10 @@ pub struct Draft {
     pub len: usize,
     pub at: usize,
 }
+
+// How far the findings are printed: the place in the room, how many more may be printed, and how many there are so far in all.
+pub struct Tally {
+    pub at: usize,
+    pub left: usize,
+    pub total: u64,
+}

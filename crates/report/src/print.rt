@@ -7,11 +7,14 @@ ghost use Rattle.rule.specs.Search.{Ready};
 ghost use Rattle.text.specs.Text.{decimal, Wrote};
 ghost use Rattle.sheet.specs.Promise.{refusedText, secondText, tabbed, totalText};
 ghost use Rattle.sheet.specs.Table.{nameAt, namesOf};
-ghost use Rattle.report.specs.Lines.{RuleLines, lineText};
+ghost use Rattle.report.specs.Lines.{RuleLines, Tallied, Tallying, countedIn, lineText};
+use crate::Tally;
 use closure::Item;
 use rule::Finding;
+use rule::Rule;
 use rule::Search;
 use rule::Second;
+use rule::Total;
 use sheet::Table;
 
 // The name of an entry.
@@ -128,4 +131,43 @@ pub fn findings(
         i += 1;
     }
     p
+}
+
+// How many findings an answer counts.
+fn counted(t: Total) -> u64
+    ensures { λ r. ⌜ r ≡ countedIn t ⌝ }
+{
+    match t {
+        Total::Count(m) => m,
+        Total::Refused(k) => 0,
+    }
+}
+
+// Judges the rule in a line: prints its findings, as many as are left to print, and counts them all.
+pub fn judge(
+    sheet: &[u8],
+    t: Table,
+    line: usize,
+    number: usize,
+    u: Rule,
+    words: &[u64],
+    room: &mut [u8],
+    b: Tally,
+) -> Tally
+    requires { ⌜ Tallying (now words) (t .counts) b ⌝ }
+    ensures { λ r. ⌜ Tallied (now (words .entry)) (t .counts) number u (namesOf (now (sheet .entry)) t) line (now (room .entry)) b (now (room .exit)) r ⌝ }
+{
+    let layout = closure::entry::layout();
+    let counts = t.counts;
+    let p = rule::seek::start(words, layout, counts, number, u, b.left);
+    let n = p.write;
+    let first = p.search;
+    let answer = p.answer;
+    let at = findings(sheet, t, line, n, words, first, room, b.at);
+    let m = counted(answer);
+    Tally {
+        at,
+        left: b.left - n,
+        total: b.total + m,
+    }
 }
