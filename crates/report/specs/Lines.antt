@@ -14,8 +14,8 @@ use Rattle.rule.specs.Findings.{Findings}
 use Rattle.rule.specs.Search.{Coming}
 use Rattle.text.specs.Bytes.{bytes}
 use Rattle.text.specs.Text.{decimal, Wrote}
-use Rattle.sheet.specs.Names.{Names}
-use Rattle.sheet.specs.Promise.{printLimit, secondText, tabbed}
+use Rattle.sheet.specs.Names.{Names, countsOf}
+use Rattle.sheet.specs.Promise.{FindingsFrom, findingsText, printLimit, secondText, tabbed}
 use Rattle.sheet.specs.Said.{Said, SheetRule}
 use Rattle.report.specs.declared.Tally.{Tally}
 
@@ -60,3 +60,11 @@ pub record Tallied (s : List ℕ) (n : Counts) (k : ℕ) (u : Rule) (names : Nam
   pub left : r .left ≡ b .left - length list
   pub total : r .total ≡ b .total + length list
   pub short : r .at + lineLimit * r .left ≤ b .at + lineLimit * b .left
+
+-- the rules `done` of the sheet x are judged in the store t: the first of their findings are written, and all are counted
+pub record Printed (x : Said) (t : List ℕ) (done : List SheetRule) (room : List ℕ) (at : ℕ) (exit : List ℕ) (b : Tally) : Type 0 where
+  pub list : List Finding
+  pub findings : FindingsFrom (Holds width (countsOf (x .names)) t) (countsOf (x .names)) 0 done list
+  pub wrote : Wrote room at (findingsText x (take printLimit list)) exit (b .at)
+  pub left : b .left ≡ printLimit - length list
+  pub total : b .total ≡ length list

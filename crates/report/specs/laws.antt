@@ -8,3 +8,4 @@ pub mod Lines
 pub mod Written
 pub mod Few
 pub mod Tally
+pub mod Printed

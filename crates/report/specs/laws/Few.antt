@@ -1,9 +1,9 @@
 -- A rule has few findings: they are in order, each within the declared items. Assumes nothing.
 use mathlib.Core.Logic.{inl, inr}
 use mathlib.Core.List.{List, [], _∷_}
-use Prim.Native.Nat.{ℕ, suc, _+_, _*_, _≤_, _<_}
+use Prim.Native.Nat.{ℕ, _+_, _*_, _≤_, _<_}
 use native.Mathlib.Omega.{arith}
-use lib.ListN.{length}
+use lib.ListN.{length, length-append}
 use Rattle.logic.specs.Number.{One}
 use Rattle.logic.specs.Number.One.{first, later}
 use Rattle.closure.specs.declared.Counts.{Counts}
@@ -14,7 +14,9 @@ use Rattle.rule.specs.declared.Second.{Second}
 use Rattle.rule.specs.declared.Second.the-variants as second
 use Rattle.rule.specs.Breaks.{Breaks}
 use Rattle.rule.specs.Findings.{Before, Findings, InOrder, SecondBefore}
-use Rattle.rule.specs.Findings.InOrder.{none, more}
+use Rattle.rule.specs.Findings.InOrder.{more}
+use Rattle.sheet.specs.Promise.{FindingsFrom}
+use Rattle.sheet.specs.Said.{SheetRule}
 
 -- the place of a second item: none comes first
 abbrev rank : Second → ℕ
@@ -52,3 +54,8 @@ pub few-findings : {C : Cell → Type 0} {n : Counts} {k : ℕ} {u : Rule} {fs :
 few-findings {C} {n} {u = u} {fs = fs} h a =
     let q = rising-few 0 16512 fs (omega arith) (a .ordered) (λ f o. let z = breaks-few C n u (f .item .0) (f .second) h (a .sound f o .1) in (omega arith, omega (arith, z .0, z .1), z .1)) in
     omega arith
+
+-- and so many for each of several rules
+pub few-from : {C : Cell → Type 0} {n : Counts} {k : ℕ} {rs : List SheetRule} {fs : List Finding} → n .items ≤ 128 → FindingsFrom C n k rs fs → length fs ≤ 16512 * length rs
+few-from h FindingsFrom.none = omega arith
+few-from h (FindingsFrom.more {fs = fs} {gs = gs} a b) = omega (arith, few-findings h a, few-from h b, length-append fs gs)

@@ -1,0 +1,88 @@
+-- From the rules that are judged one after the other to the printed text of the sheet. Assumes nothing.
+use mathlib.Core.Path.{_≡_, refl, sym, ap, ap₂, _∙_, subst}
+use mathlib.Core.List.{List, [], _∷_, _++_, map, append-assoc, append-nil}
+use Prim.Native.Nat.{ℕ, _+_, _*_, _-_, _≤_}
+use native.Mathlib.Omega.{arith}
+use lib.ListN.{length, getD, take, length-append}
+use Rattle.row.specs.Bit.{Words}
+use Rattle.closure.specs.declared.Counts.{Counts}
+use Rattle.closure.specs.Cell.{Cell}
+use Rattle.rule.specs.declared.Finding.{Finding}
+use Rattle.rule.specs.Findings.{Findings}
+use Rattle.text.specs.Text.{Wrote}
+use Rattle.text.specs.laws.Text.{wrote-none, wrote-then}
+use Rattle.sheet.specs.declared.Table.{Table}
+use Rattle.sheet.specs.Names.{countsOf}
+use Rattle.sheet.specs.Promise.{FindingsFrom, Held, Prints, findingsText, printLimit, totalText}
+use Rattle.sheet.specs.Promise.FindingsFrom.{none, more}
+use Rattle.sheet.specs.Promise.Prints.{accepted}
+use Rattle.sheet.specs.Said.{Said, SheetRule, outcome}
+use Rattle.sheet.specs.Table.{Roomy, namesOf}
+use Rattle.sheet.specs.laws.Names.{entered-length}
+use Rattle.sheet.specs.Said.Outcome.{accepted as acceptedSheet}
+use Rattle.report.specs.declared.Tally.{Tally}
+use Rattle.report.specs.Lines.{Printed, Tallied, lineOf, linesText}
+use Rattle.report.specs.laws.Few.{few-from}
+use Rattle.report.specs.laws.Lines.{findings-more, rule-lines}
+
+-- one rule more has its findings after those of the others
+findings-snoc : {C : Cell → Type 0} {n : Counts} {k i : ℕ} {rs : List SheetRule} {fs gs : List Finding} (r : SheetRule) → FindingsFrom C n k rs fs → Findings C n i (r .rule) gs → i ≡ k + length rs
+    → FindingsFrom C n k (rs ++ r ∷ []) (fs ++ gs)
+findings-snoc {C} {n} {k} {i} {gs = gs} r none a e =
+    let at : i ≡ k = omega (arith, e) in
+    subst (λ (hs : List Finding). FindingsFrom C n k (r ∷ []) hs) (append-nil gs) (more (subst (λ (j : ℕ). Findings C n j (r .rule) gs) at a) none)
+findings-snoc {C} {n} {k} {i} {gs = gs} r (more {r = q} {rs = rs} {fs = fs} {gs = hs} b m) a e =
+    subst (λ (ls : List Finding). FindingsFrom C n k (q ∷ (rs ++ r ∷ [])) ls) (sym (append-assoc fs hs gs)) (more b (findings-snoc r m a (omega (arith, e))))
+
+-- the line of the rule after the others
+line-at : (done rest : List SheetRule) (r : SheetRule) → getD (map (λ (q : SheetRule). q .line) (done ++ r ∷ rest)) (length done) 0 ≡ r .line
+line-at [] rest r = refl
+line-at (q ∷ done) rest r = line-at done rest r
+
+-- no rule is judged yet
+pub printed-start : (x : Said) (t room : List ℕ) (at : ℕ) → Printed x t [] room at room (record { at = at; left = printLimit; total = 0 })
+unfolding findingsText
+printed-start x t room at = record { list = []; findings = none; wrote = wrote-none room at; left = refl; total = refl }
+
+-- one rule more is judged
+pub printed-more : {x : Said} {t : List ℕ} {done : List SheetRule} {room mid exit : List ℕ} {at : ℕ} {b r : Tally} (q : SheetRule) (rest : List SheetRule) → x .rules ≡ done ++ q ∷ rest → Printed x t done room at mid b
+    → Tallied t (countsOf (x .names)) (length done) (q .rule) (x .names) (q .line) mid b exit r → Printed x t (done ++ q ∷ []) room at exit r
+printed-more {x} {t} {done} {room} {mid} {exit} {at} {b} {r} q rest e w z = record {
+  list = w .list ++ z .list;
+  findings = findings-snoc q (w .findings) (z .findings) (omega arith);
+  wrote = subst (λ (u : List ℕ). Wrote room at u exit (r .at)) (sym text) (wrote-then (w .wrote) (z .wrote));
+  left = omega (arith, w .left, z .left, long);
+  total = omega (arith, w .total, z .total, long);
+}
+  where
+    long : length (w .list ++ z .list) ≡ length (w .list) + length (z .list)
+    long = length-append (w .list) (z .list)
+
+    line : lineOf x (length done) ≡ q .line
+    line = ap (λ (rs : List SheetRule). getD (map (λ (p : SheetRule). p .line) rs) (length done) 0) e ∙ line-at done rest q
+
+    here : findingsText x (take (printLimit - length (w .list)) (z .list)) ≡ linesText (x .names) (q .line) (take (b .left) (z .list))
+    here =
+        rule-lines x (printLimit - length (w .list)) (z .findings)
+        ∙ ap₂ {C = List ℕ} (λ i k. linesText (x .names) i (take k (z .list))) line (sym (w .left))
+
+    text : findingsText x (take printLimit (w .list ++ z .list)) ≡ findingsText x (take printLimit (w .list)) ++ linesText (x .names) (q .line) (take (b .left) (z .list))
+    text = findings-more x printLimit (w .list) (z .list) ∙ ap (λ (u : List ℕ). findingsText x (take printLimit (w .list)) ++ u) here
+
+-- all rules are judged and the total is written: that is what is printed of the sheet
+pub printed-all : {sheet : List ℕ} {x : Said} {t room mid exit : List ℕ} {b : Tally} {at r : ℕ} → outcome sheet ≡ acceptedSheet x → Words 64 t → Held x t → Printed x t (x .rules) room at mid b
+    → Wrote mid (b .at) (totalText (b .total)) exit r → (text : List ℕ) × Prints sheet text × Wrote room at text exit r
+printed-all {sheet} {x} {t} {room} {mid} {exit} {b} {at} {r} o words held w z = (
+  findingsText x (take printLimit (w .list)) ++ totalText (length (w .list)),
+  accepted o words held (w .findings),
+  wrote-then (w .wrote) (subst (λ (m : ℕ). Wrote mid (b .at) (totalText m) exit r) (w .total) z),
+)
+
+-- few findings are counted
+pub printed-few : {x : Said} {t : List ℕ} {done : List SheetRule} {room exit : List ℕ} {at : ℕ} {b : Tally} → length (x .names .items) ≤ 128 → Printed x t done room at exit b → b .total ≤ 16512 * length done
+printed-few h w = omega (arith, w .total, few-from h (w .findings))
+
+-- the counts of a table are those of its names
+pub counts-named : (sheet : List ℕ) (t : Table) → length (t .concepts) ≡ 32 → length (t .roles) ≡ 16 → length (t .items) ≡ 128 → Roomy t → countsOf (namesOf sheet t) ≡ t .counts
+counts-named sheet t c r i f =
+    rw (entered-length sheet (t .counts .concepts) (t .concepts) (omega (arith, f .concepts)), entered-length sheet (t .counts .roles) (t .roles) (omega (arith, f .roles)), entered-length sheet (t .counts .items) (t .items) (omega (arith, f .items)))
