@@ -1,4 +1,3 @@
 -- What is printed of a sheet.
-pub mod Drafting
 pub mod Lines
 pub mod laws

@@ -3,7 +3,6 @@ pub mod Laid
 pub mod Formed
 pub mod Reading
 pub mod Ruled
-pub mod Drafting
 pub mod Lines
 pub mod Written
 pub mod Few
