@@ -15,4 +15,5 @@ pub mod Read
 pub mod Nodes
 pub mod Parse
 pub mod Rules
+pub mod Within
 pub mod Readings

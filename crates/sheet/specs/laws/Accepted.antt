@@ -31,11 +31,11 @@ use Rattle.sheet.specs.laws.Names.{lower-both, lower-first, lower-none}
 
 -- ---- nothing applies
 
-fault-none : (b : Bool) (k rest : ℕ) → fault b (suc k) rest ≡ 0 → (b ≡ false) × (rest ≡ 0)
+pub fault-none : (b : Bool) (k rest : ℕ) → fault b (suc k) rest ≡ 0 → (b ≡ false) × (rest ≡ 0)
 fault-none true k rest e = absurd (omega arith)
 fault-none false k rest e = (refl, e)
 
-lower-zeros : (a b : ℕ) → lowerFault a b ≡ 0 → (a ≡ 0) × (b ≡ 0)
+pub lower-zeros : (a b : ℕ) → lowerFault a b ≡ 0 → (a ≡ 0) × (b ≡ 0)
 lower-zeros zero b e = (refl, lower-none 0 b refl ∙ e)
 lower-zeros (suc a) zero e = absurd (omega (arith, lower-first (suc a) 0 (λ q. omega arith) refl, e))
 lower-zeros (suc a) (suc b) e = absurd (omega (arith, lower-both (suc a) (suc b) (λ q. omega arith) (λ q. omega arith), e))
