@@ -16,4 +16,5 @@ pub mod Nodes
 pub mod Parse
 pub mod Rules
 pub mod Within
+pub mod Formed
 pub mod Readings

@@ -148,7 +148,7 @@ joining-at operator.Top p i = refl
 joining-at operator.Bot p i = refl
 joining-at operator.None p i = refl
 
-size-some : (e : Expr) → 1 ≤ size e
+pub size-some : (e : Expr) → 1 ≤ size e
 unfolding size
 size-some (name c) = omega arith
 size-some top = omega arith
