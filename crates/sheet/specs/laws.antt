@@ -17,4 +17,5 @@ pub mod Parse
 pub mod Rules
 pub mod Within
 pub mod Formed
+pub mod Judged
 pub mod Readings

@@ -8,7 +8,6 @@ use crate::Operator;
 use crate::Parsed;
 use crate::Table;
 use rule::Node;
-use rule::RoleUse;
 use rule::Slot;
 
 // One node more.

@@ -7,7 +7,7 @@ ghost use Rattle.rule.specs.Form.{nodeLimit};
 ghost use Rattle.sheet.specs.Names.{fault};
 ghost use Rattle.sheet.specs.Fault.{ended as endedBy, fieldsFault, formFault, full as fullBy, headerFault, lineFault, lineLimit, unknown as unknownBy};
 ghost use Rattle.sheet.specs.Table.{Roomy, namesOf};
-ghost use Rattle.sheet.specs.Words.{bodyOf, formOf, sectionOf};
+ghost use Rattle.sheet.specs.Words.{bodyOf, formOf};
 use crate::Form;
 use crate::Marks;
 use crate::Section;

@@ -32,12 +32,12 @@ laid-node xs j h l =
 
 -- ---- what holds of each node at its place
 
-pub Each : (ℕ → Node → Type 0) → ℕ → List Node → Type 0
+unfoldable pub Each : (ℕ → Node → Type 0) → ℕ → List Node → Type 0
 Each P i [] = Unit {0}
 Each P i (x ∷ xs) = P i x × Each P (i + 1) xs
 
 module _ (P : ℕ → Node → Type 0) where
-  each-append : (i k : ℕ) (xs ys : List Node) → k ≡ i + length xs → Each P i xs → Each P k ys → Each P i (xs ++ ys)
+  pub each-append : (i k : ℕ) (xs ys : List Node) → k ≡ i + length xs → Each P i xs → Each P k ys → Each P i (xs ++ ys)
   unfolding Each
   each-append i k [] ys e a b = let z : k ≡ i = omega arith in rw z at b
   each-append i k (x ∷ xs) ys e a b = (a .0, each-append (i + 1) k xs ys (omega arith) (a .1) b)
