@@ -18,4 +18,5 @@ pub mod Rules
 pub mod Within
 pub mod Formed
 pub mod Judged
+pub mod Settled
 pub mod Readings
