@@ -1,4 +1,4 @@
-// The printed lines of a sheet.
+// The printed lines of a sheet. What is public here is a part with a `requires`, not an entry point.
 ghost use mathlib.Core.Path.{_≡_};
 ghost use mathlib.Core.List.{[]};
 ghost use Prim.Native.Nat.{_*_, _+_, _<_, _≤_};
@@ -27,7 +27,7 @@ fn entry(sheet: &[u8], p: u32) -> &[u8]
 }
 
 // The name of an item; no bytes where there is none with that number.
-pub fn name(sheet: &[u8], t: Table, a: Item) -> &[u8]
+fn name(sheet: &[u8], t: Table, a: Item) -> &[u8]
     ensures { λ r. ⌜ now r ≡ getD (namesOf (now (sheet .entry)) t .items) (a .0) [] ⌝ }
 {
     let counts = t.counts;
@@ -94,7 +94,7 @@ pub fn total(room: &mut [u8], at: usize, n: u64) -> usize
 }
 
 // Writes a finding of the rule in a line: `finding`, the line number, item, second item if any.
-pub fn finding(sheet: &[u8], t: Table, line: usize, f: Finding, room: &mut [u8], at: usize) -> usize
+fn finding(sheet: &[u8], t: Table, line: usize, f: Finding, room: &mut [u8], at: usize) -> usize
     requires { ⌜ at < 800000 ⌝ }
     ensures { λ r. ⌜ (Wrote (now (room .entry)) at (lineText (namesOf (now (sheet .entry)) t) line f) (now (room .exit)) r) × (r ≤ at + 93) ⌝ }
 {
@@ -108,7 +108,7 @@ pub fn finding(sheet: &[u8], t: Table, line: usize, f: Finding, room: &mut [u8],
 }
 
 // Writes the first n findings from the search on, of the rule in a line.
-pub fn findings(
+fn findings(
     sheet: &[u8],
     t: Table,
     line: usize,
