@@ -1,8 +1,4 @@
 -- What is proved of a sheet's rules.
-pub mod Laid
-pub mod Formed
-pub mod Reading
-pub mod Ruled
 pub mod Lines
 pub mod Written
 pub mod Few
