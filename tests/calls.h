@@ -161,4 +161,21 @@ static void watch_signals(void)
         signal(STOPPING[i], on_signal);
 }
 
+/* Reads the next command's word, and carries out those that only say where the test is; 0 at the end. */
+static int next_command(char word[NAME_BYTES], struct place *place)
+{
+    while (read_word(word)) {
+        if (strcmp(word, "part") != 0)
+            return 1;
+        do_part(place);
+    }
+    return 0;
+}
+
+/* Says how many calls there were. */
+static void say_done(const struct place *place)
+{
+    printf("done %" PRIu64 "\n", place->calls);
+}
+
 #endif

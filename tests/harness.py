@@ -65,6 +65,14 @@ def main(chosen, selftest, run, calls, agree, differ):
     return 1
 
 
+# The commands of a short test, drawn by a module of cases, and the number of their calls.
+def short_test(cases, *drawn):
+    written = []
+    commands = cases.Commands(written.append)
+    cases.write_all(commands, *drawn)
+    return "".join(written), len(commands.calls)
+
+
 # Compiles one file of the tests.
 def compile_file(name, result, options=()):
     subprocess.run([*COMPILER, *options, "-c", str(ROOT / "tests" / name), "-o", str(BUILD / result)], check=True)

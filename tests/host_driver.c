@@ -89,10 +89,8 @@ static void run_commands(void)
     static struct run run;
     char word[NAME_BYTES];
     watch_signals();
-    while (read_word(word)) {
-        if (strcmp(word, "part") == 0)
-            do_part(&run.place);
-        else if (strcmp(word, "sheet") == 0)
+    while (next_command(word, &run.place)) {
+        if (strcmp(word, "sheet") == 0)
             lend_bytes(&run.sheet);
         else if (strcmp(word, "text") == 0)
             lend_bytes(&run.text);
@@ -104,7 +102,7 @@ static void run_commands(void)
     take_back(&run.sheet);
     take_back(&run.text);
     take_back(&run.room);
-    printf("done %" PRIu64 "\n", run.place.calls);
+    say_done(&run.place);
 }
 
 /* Runs the commands. */

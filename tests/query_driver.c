@@ -105,10 +105,8 @@ static void run_commands(void)
     static struct run run;
     char word[NAME_BYTES];
     watch_signals();
-    while (read_word(word)) {
-        if (strcmp(word, "part") == 0)
-            do_part(&run.place);
-        else if (strcmp(word, "rule") == 0)
+    while (next_command(word, &run.place)) {
+        if (strcmp(word, "rule") == 0)
             lend_list(&run.rule);
         else if (strcmp(word, "call") == 0)
             do_call(&run);
@@ -117,7 +115,7 @@ static void run_commands(void)
     }
     take_back(&run.rule);
     take_back(&run.room);
-    printf("done %" PRIu64 "\n", run.place.calls);
+    say_done(&run.place);
 }
 
 /* --- Measuring: the deepest rules, over 128 items, 32 concepts and 16 roles. --- */

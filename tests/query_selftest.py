@@ -35,14 +35,6 @@ SPOILED = (
 )
 
 
-# The commands of a short test, and the number of their calls.
-def short_test(seed):
-    written = []
-    commands = query_cases.Commands(written.append)
-    query_cases.write_all(commands, seed, RULES, ROUNDS)
-    return "".join(written), len(commands.calls)
-
-
 # Builds the driver with the stand-in, one fault planted or none.
 def build(options):
     harness.compile_file("query_reference.c", "query_selftest_queries.o", options)
@@ -166,5 +158,6 @@ def run(seed):
     harness.BUILD.mkdir(parents=True, exist_ok=True)
     harness.compile_file("query_driver.c", "query_selftest_driver.o")
     options = harness.planted("rule_shape.h", "SHAPE_FAULT") + harness.planted("query_reference.c", "QUERY_FAULT")
-    faulty = harness.selftest("query", seed, short_test(seed), build, options, RIGHT, SPOILED)
+    test = harness.short_test(query_cases, seed, RULES, ROUNDS)
+    faulty = harness.selftest("query", seed, test, build, options, RIGHT, SPOILED)
     return faulty or run_oracle(seed)

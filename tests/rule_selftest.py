@@ -25,14 +25,6 @@ SPOILED = (
 )
 
 
-# The commands of a short test, and the number of their calls.
-def short_test(seed):
-    written = []
-    commands = rule_cases.Commands(written.append)
-    rule_cases.write_all(commands, seed, RULES, ROUNDS)
-    return "".join(written), len(commands.calls)
-
-
 # Builds the driver with the stand-in, one fault planted or none.
 def build(options):
     harness.compile_file("rule_reference.c", "rule_selftest_rules.o", options)
@@ -45,4 +37,5 @@ def run(seed):
     harness.compile_file("rule_driver.c", "rule_selftest_driver.o")
     harness.compile_file("reference_store.c", "rule_selftest_store.o")
     options = harness.planted("rule_shape.h", "SHAPE_FAULT") + harness.planted("rule_reference.c", "RULE_FAULT")
-    return harness.selftest("rule", seed, short_test(seed), build, options, RIGHT, SPOILED)
+    test = harness.short_test(rule_cases, seed, RULES, ROUNDS)
+    return harness.selftest("rule", seed, test, build, options, RIGHT, SPOILED)
