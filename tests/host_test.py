@@ -77,14 +77,6 @@ def report_difference(commands, seed, code, lines):
         print(f"the case is {case.name}, the sheet:\n{sheet_test.shown(case.sheet)}\nthe text due:\n{outcome.text}")
 
 
-# A short test as text, and the number of its calls.
-def short_test(seed):
-    written = []
-    commands = Commands(written.append)
-    write_all(commands, seed, SELFTEST_SHEETS)
-    return "".join(written), len(commands.calls)
-
-
 # Builds the driver with the stand-in, one fault planted or none.
 def build(options):
     harness.compile_file("host_reference.c", "host_selftest_host.o", options)
@@ -97,22 +89,21 @@ def selftest(seed):
     for name, result in (("host_driver.c", "driver"), ("reference_store.c", "store"), ("rule_reference.c", "rules")):
         harness.compile_file(name, f"host_selftest_{result}.o")
     options = harness.planted("host_reference.c", "HOST_FAULT")
-    return harness.selftest("host", seed, short_test(seed), build, options, RIGHT, SPOILED)
+    return harness.selftest("host", seed, harness.short_test(sys.modules[__name__], seed, SELFTEST_SHEETS), build, options,
+                            RIGHT, SPOILED)
 
 
-# Runs the test or the self-test; 0 if all is well.
-def main():
-    chosen = harness.arguments("Tests the sheet check as the host calls it.", "sheets", DEFAULT_SHEETS)
-    if chosen.selftest:
-        return selftest(chosen.seed)
-    commands, code, lines = harness.run(chosen.driver, Commands,
-                                        lambda commands: write_all(commands, chosen.seed, chosen.size))
-    if code == 0 and lines[-1:] == [f"done {len(commands.calls)}"]:
-        print(f"host: {commands.judged} sheets, {len(commands.calls)} calls, seed {chosen.seed}: all agree")
-        return 0
-    report_difference(commands, chosen.seed, code, lines)
-    return 1
+# Sends the whole test to the driver.
+def run(driver, seed, sheets):
+    return harness.run(driver, Commands, lambda commands: write_all(commands, seed, sheets))
+
+
+# Prints what was run.
+def report_agreement(commands, seed):
+    print(f"host: {commands.judged} sheets, {len(commands.calls)} calls, seed {seed}: all agree")
 
 
 if __name__ == "__main__":
-    sys.exit(main())
+    chosen = harness.arguments("Tests the sheet check as the host calls it.", "sheets", DEFAULT_SHEETS)
+    sys.exit(harness.main(chosen, selftest, run, lambda commands: len(commands.calls), report_agreement,
+                          report_difference))

@@ -53,18 +53,11 @@ twoLinks =
 abbrev pub sameLinks : Statement
 sameLinks = statement.Same (record { 0 = 1 }) (record { 0 = 2 })
 
--- the rule `sub C atleast 2 R D`: node 0 is C, node 1 at least 2 R of node 2, node 2 is D
-pub record IsAtLeast2 (u : Rule) : Type 0 where
+-- the rule `sub C atleast k R D`: node 0 is C, node 1 at least k R of node 2, node 2 is D; concept 0 is C and 1 D, role 0 is R. With k = 1 it is `sub Blade some fits Hub`
+pub record IsAtLeast (k : ℕ) (u : Rule) : Type 0 where
   pub head : u .head ≡ Sub 0 1
   pub left : nodeAt (u .nodes) 0 ≡ Name (record { 0 = 0 })
-  pub right : nodeAt (u .nodes) 1 ≡ AtLeast 2 (record { role = record { 0 = 0 }; inverse = false }) 2
-  pub filler : nodeAt (u .nodes) 2 ≡ Name (record { 0 = 1 })
-
--- the rule `sub Blade some fits Hub`: node 0 is Blade, node 1 at least 1 fits of node 2, node 2 is Hub; concept 0 is Blade and 1 Hub, role 0 is fits
-pub record IsBladeRule (u : Rule) : Type 0 where
-  pub head : u .head ≡ Sub 0 1
-  pub left : nodeAt (u .nodes) 0 ≡ Name (record { 0 = 0 })
-  pub right : nodeAt (u .nodes) 1 ≡ AtLeast 1 (record { role = record { 0 = 0 }; inverse = false }) 2
+  pub right : nodeAt (u .nodes) 1 ≡ AtLeast k (record { role = record { 0 = 0 }; inverse = false }) 2
   pub filler : nodeAt (u .nodes) 2 ≡ Name (record { 0 = 1 })
 
 -- all the examples that are marked P so far
@@ -84,13 +77,13 @@ pub record Examples : Type 0 where
   pub ref-one : {n : Counts} {s : List ℕ} {k : ℕ} {u : Rule} {fs : List Finding} → n .items ≡ 1 → ((r a b : ℕ) → ¬ (Holds width n s (Link r a b))) → IsRef u
       → Findings (Holds width n s) n k u fs → length fs ≡ 1
   -- c in C, linked to d1 and d2 in D: `sub C atleast 2 R D` 0 findings
-  pub two-articles : {s : List ℕ} {k : ℕ} {u : Rule} {fs : List Finding} → Keeps width threeItems (Stated twoLinks) s → IsAtLeast2 u → Findings (Holds width threeItems s) threeItems k u fs
+  pub two-articles : {s : List ℕ} {k : ℕ} {u : Rule} {fs : List Finding} → Keeps width threeItems (Stated twoLinks) s → IsAtLeast 2 u → Findings (Holds width threeItems s) threeItems k u fs
       → length fs ≡ 0
   -- with d1 same as d2: 1
-  pub one-article : {s : List ℕ} {k : ℕ} {u : Rule} {fs : List Finding} → Keeps width threeItems (Stated (sameLinks ∷ twoLinks)) s → IsAtLeast2 u
+  pub one-article : {s : List ℕ} {k : ℕ} {u : Rule} {fs : List Finding} → Keeps width threeItems (Stated (sameLinks ∷ twoLinks)) s → IsAtLeast 2 u
       → Findings (Holds width threeItems s) threeItems k u fs → length fs ≡ 1
   -- `sub Blade some fits Hub`: 5 query items
-  pub five-items : {n : Counts} {before after : List ℕ} {items k : ℕ} {u : Rule} → IsBladeRule u → Compiles width n u before after (Compiled items k) → items ≡ 5
+  pub five-items : {n : Counts} {before after : List ℕ} {items k : ℕ} {u : Rule} → IsAtLeast 1 u → Compiles width n u before after (Compiled items k) → items ≡ 5
   -- at least 2 R D: 7; 3: 15, for each role, each concept, each term and whatever the next variable
   pub seven-items : (r : RoleUse) (d : Concept) (t v : ℕ) → size (ofExpr (many 2 r (name d)) t v) ≡ 7
   pub fifteen-items : (r : RoleUse) (d : Concept) (t v : ℕ) → size (ofExpr (many 3 r (name d)) t v) ≡ 15

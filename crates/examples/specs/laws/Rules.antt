@@ -1,5 +1,5 @@
 -- The examples about rules. Assumes nothing.
-use mathlib.Core.Path.{_≡_, refl, sym, ap, ap₂, _∙_, subst}
+use mathlib.Core.Path.{_≡_, refl, sym, ap₂, _∙_, subst}
 use mathlib.Core.Logic.{_⊎_, inl, inr, ⊎-elim}
 use mathlib.Core.Bool.{Bool, true, false, true≢false}
 use mathlib.Core.List.{List, [], _∷_}
@@ -12,7 +12,7 @@ use Rattle.logic.specs.Number.Distinct.{none as distinct-none, more as distinct
 use Rattle.logic.specs.laws.Number.{one-cases, one-none, number-unique, number-none}
 use Rattle.closure.specs.declared.Counts.{Counts}
 use Rattle.closure.specs.declared.Statement.{Statement}
-use Rattle.closure.specs.Cell.{Cell, Within, Obeys, Follows, cellOf, turn}
+use Rattle.closure.specs.Cell.{Cell, Obeys, cellOf, turn}
 use Rattle.closure.specs.Cell.Cell.{Same, Under, RoleUnder, In, Link}
 use Rattle.closure.specs.Cell.Follows.{given}
 use Rattle.closure.specs.Layout.{Holds, width}
@@ -21,19 +21,16 @@ use Rattle.closure.specs.Lines.{Stated}
 use Rattle.closure.specs.Lines.Stated.{stated}
 use Rattle.closure.specs.laws.Least.{least}
 use Rattle.rule.specs.declared.Finding.{Finding}
-use Rattle.rule.specs.declared.RoleUse.{RoleUse}
 use Rattle.rule.specs.declared.Rule.{Rule}
 use Rattle.rule.specs.declared.Second.{Second}
 use Rattle.rule.specs.declared.Second.the-variants as second
 use Rattle.rule.specs.Breaks.{Breaks}
-use Rattle.rule.specs.Expr.{build, exprAt, exprOf}
-use Rattle.rule.specs.Expr.Expr.{name, many}
 use Rattle.rule.specs.Findings.{Findings}
 use Rattle.rule.specs.Meaning.{HoldsOf, Articles, Different, LinkedWay}
 use Rattle.rule.specs.Meaning.Different.{none, more}
 use Rattle.rule.specs.laws.Findings.{findings-number}
-use Rattle.rule.specs.laws.Tree.{exprAt-suc}
-use Rattle.examples.specs.Examples.{IsRef, IsAtLeast2, threeItems, twoLinks, sameLinks}
+use Rattle.examples.specs.laws.AtLeast.{expr-left, expr-right}
+use Rattle.examples.specs.Examples.{IsRef, IsAtLeast, threeItems, twoLinks, sameLinks}
 
 -- ---- ref
 
@@ -115,19 +112,7 @@ module _ (two : ℕ) (lo : 1 ≤ two) where
 
 -- ---- at least 2: the rule
 
--- the rule's expressions
-expr-left : (u : Rule) → IsAtLeast2 u → exprOf (u .nodes) 0 ≡ name (record { 0 = 0 })
-expr-left u i = exprAt-suc 31 (u .nodes) 0 ∙ ap (build (exprAt 31 (u .nodes))) (i .left)
-
-abbrev roleR : RoleUse
-roleR = record { role = record { 0 = 0 }; inverse = false }
-
-expr-right : (u : Rule) → IsAtLeast2 u → exprOf (u .nodes) 1 ≡ many 2 roleR (name (record { 0 = 1 }))
-expr-right u i =
-    exprAt-suc 31 (u .nodes) 1 ∙ ap (build (exprAt 31 (u .nodes))) (i .right)
-    ∙ ap (many 2 roleR) (exprAt-suc 30 (u .nodes) 2 ∙ ap (build (exprAt 30 (u .nodes))) (i .filler))
-
-module _ (two : ℕ) (lo : 1 ≤ two) (lines : List Statement) (inside : (c : Cell) → Stated lines c → Model two c) (s : List ℕ) (k : Keeps width threeItems (Stated lines) s) (u : Rule) (i : IsAtLeast2 u) where
+module _ (two : ℕ) (lo : 1 ≤ two) (lines : List Statement) (inside : (c : Cell) → Stated lines c → Model two c) (s : List ℕ) (k : Keeps width threeItems (Stated lines) s) (u : Rule) (i : IsAtLeast 2 u) where
   -- whatever holds is in the model
   in-model : (c : Cell) → Holds width threeItems s c → Model two c
   in-model c x = least (model-obeys two lo) inside (k .sound c x)
@@ -140,18 +125,18 @@ module _ (two : ℕ) (lo : 1 ≤ two) (lines : List Statement) (inside : (c : Ce
   -- a place where the rule is broken is c alone
   breaks-zero : (x : ℕ) (t : Second) → Breaks (Holds width threeItems s) threeItems u x t → (x ≡ 0) × (t ≡ second.None)
   unfolding HoldsOf
-  breaks-zero x second.None b = let h = rw (i .head) at (b .1) in (left-zero x (rw (expr-left u i) at (h .0)), refl)
+  breaks-zero x second.None b = let h = rw (i .head) at (b .1) in (left-zero x (rw (expr-left 2 u i) at (h .0)), refl)
   breaks-zero x (second.Item y) b = absurd (rw (i .head) at (b .2))
 
   -- what the rule asks of c
   asks : Breaks (Holds width threeItems s) threeItems u 0 second.None → ¬ (Articles (Holds width threeItems s) threeItems 2 (λ b. Holds width threeItems s (Link 0 0 b) × Holds width threeItems s (In b 1)))
   unfolding HoldsOf
-  asks b a = rw (expr-right u i) at ((rw (i .head) at (b .1)) .1) a
+  asks b a = rw (expr-right 2 u i) at ((rw (i .head) at (b .1)) .1) a
 
   broken : Holds width threeItems s (In 0 0) → ¬ (Articles (Holds width threeItems s) threeItems 2 (λ b. Holds width threeItems s (Link 0 0 b) × Holds width threeItems s (In b 1)))
       → Breaks (Holds width threeItems s) threeItems u 0 second.None
   unfolding HoldsOf
-  broken h n = (omega arith, rw (i .head) (rw (expr-left u i) h, rw (expr-right u i) n))
+  broken h n = (omega arith, rw (i .head) (rw (expr-left 2 u i) h, rw (expr-right 2 u i) n))
 
 -- ---- the lines
 
@@ -173,7 +158,7 @@ in-lines : (two : ℕ) (lines : List Statement) → All (λ x. Model two (cellOf
 in-lines two lines a c (stated o) = all-one (λ x. Model two (cellOf x)) lines a o
 
 -- d1 and d2 are different articles
-pub two-articles : {s : List ℕ} {k : ℕ} {u : Rule} {fs : List Finding} → Keeps width threeItems (Stated twoLinks) s → IsAtLeast2 u → Findings (Holds width threeItems s) threeItems k u fs
+pub two-articles : {s : List ℕ} {k : ℕ} {u : Rule} {fs : List Finding} → Keeps width threeItems (Stated twoLinks) s → IsAtLeast 2 u → Findings (Holds width threeItems s) threeItems k u fs
     → length fs ≡ 0
 unfolding Model class
 two-articles {s} {u = u} k i f = number-unique (findings-number f) (number-none never)
@@ -207,7 +192,7 @@ two-articles {s} {u = u} k i f = number-unique (findings-number f) (number-none 
         asks 2 (omega arith) twoLinks lines s k u i (subst (λ (q : ℕ × Second). Breaks (Holds width threeItems s) threeItems u (q .0) (q .1)) e b) enough
 
 -- d1 and d2 are one article
-pub one-article : {s : List ℕ} {k : ℕ} {u : Rule} {fs : List Finding} → Keeps width threeItems (Stated (sameLinks ∷ twoLinks)) s → IsAtLeast2 u
+pub one-article : {s : List ℕ} {k : ℕ} {u : Rule} {fs : List Finding} → Keeps width threeItems (Stated (sameLinks ∷ twoLinks)) s → IsAtLeast 2 u
     → Findings (Holds width threeItems s) threeItems k u fs → length fs ≡ 1
 unfolding Model class
 one-article {s} {u = u} k i f = number-unique (findings-number f) (record {
