@@ -41,9 +41,9 @@ abbrev pub countedIn : Total → ℕ
 countedIn (Count m) = m
 countedIn (Refused k) = 0
 
--- the most bytes of a finding's line
-abbrev pub lineLimit : ℕ
-lineLimit = 93
+-- no line of a finding has more bytes: three numbers and names at their longest
+abbrev pub findingBound : ℕ
+findingBound = 93
 
 -- one rule more can be printed and counted: the store s is closed, and the place and the total are small
 pub record Tallying (s : List ℕ) (n : Counts) (b : Tally) : Type 0 where
@@ -59,7 +59,7 @@ pub record Tallied (s : List ℕ) (n : Counts) (k : ℕ) (u : Rule) (names : Nam
   pub wrote : Wrote room (b .at) (linesText names line (take (b .left) list)) exit (r .at)
   pub left : r .left ≡ b .left - length list
   pub total : r .total ≡ b .total + length list
-  pub short : r .at + lineLimit * r .left ≤ b .at + lineLimit * b .left
+  pub short : r .at + findingBound * r .left ≤ b .at + findingBound * b .left
 
 -- the rules `done` of the sheet x are judged in the store t: the first of their findings are written, and all are counted
 pub record Printed (x : Said) (t : List ℕ) (done : List SheetRule) (room : List ℕ) (at : ℕ) (exit : List ℕ) (b : Tally) : Type 0 where

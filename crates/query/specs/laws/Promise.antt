@@ -1,9 +1,11 @@
 -- Which number applies to compiling a rule, and that it allows one result. Assumes nothing.
 use mathlib.Core.Path.{_≡_, refl, sym, ap, subst, _∙_}
 use mathlib.Core.Logic.{_⊎_, inl, inr, ⊎-elim}
+use mathlib.Core.Bool.{cond}
 use mathlib.Core.List.{List, _++_}
 use Prim.Native.Nat.{ℕ, _+_, _*_, _≤_, _<_}
 use native.Mathlib.Omega.{arith}
+use lib.Dec.{eqb}
 use lib.ListN.{length, drop}
 use lib.Seq.{sets, sets-eq}
 use Rattle.logic.specs.Lowest.{Lowest, NoneApplies}
@@ -109,32 +111,21 @@ filled-compiled n u before after r k f w i h le fit d a =
 
 -- ---- one result
 
+-- the refusal of a number
+refusalOf : ℕ → QueryRefusal
+refusalOf k = cond (eqb k 1) Size (cond (eqb k 3) Malformed (cond (eqb k 4) Number (cond (eqb k 5) TooLong Room)))
+
+back : (k : QueryRefusal) → refusalOf (number k) ≡ k
+unfolding refusalOf
+back Size = refl
+back Malformed = refl
+back Number = refl
+back TooLong = refl
+back Room = refl
+
+-- a number is that of one refusal
 number-one : (j k : QueryRefusal) → number j ≡ number k → j ≡ k
-number-one Size Size e = refl
-number-one Size Malformed e = absurd (omega arith)
-number-one Size Number e = absurd (omega arith)
-number-one Size TooLong e = absurd (omega arith)
-number-one Size Room e = absurd (omega arith)
-number-one Malformed Size e = absurd (omega arith)
-number-one Malformed Malformed e = refl
-number-one Malformed Number e = absurd (omega arith)
-number-one Malformed TooLong e = absurd (omega arith)
-number-one Malformed Room e = absurd (omega arith)
-number-one Number Size e = absurd (omega arith)
-number-one Number Malformed e = absurd (omega arith)
-number-one Number Number e = refl
-number-one Number TooLong e = absurd (omega arith)
-number-one Number Room e = absurd (omega arith)
-number-one TooLong Size e = absurd (omega arith)
-number-one TooLong Malformed e = absurd (omega arith)
-number-one TooLong Number e = absurd (omega arith)
-number-one TooLong TooLong e = refl
-number-one TooLong Room e = absurd (omega arith)
-number-one Room Size e = absurd (omega arith)
-number-one Room Malformed e = absurd (omega arith)
-number-one Room Number e = absurd (omega arith)
-number-one Room TooLong e = absurd (omega arith)
-number-one Room Room e = refl
+number-one j k e = sym (back j) ∙ ap refusalOf e ∙ back k
 
 -- any two results that compiling allows are equal, and so are the rooms that it leaves
 pub compiles-unique : {W : ℕ} {n : Counts} {u : Rule} {before after₁ after₂ : List ℕ} {r₁ r₂ : Outcome} → Compiles W n u before after₁ r₁ → Compiles W n u before after₂ r₂ → (r₁ ≡ r₂) × (after₁ ≡ after₂)

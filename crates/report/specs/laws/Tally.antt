@@ -18,7 +18,7 @@ use Rattle.rule.specs.Search.{Starts}
 use Rattle.text.specs.Text.{Wrote}
 use Rattle.sheet.specs.Names.{Names}
 use Rattle.report.specs.declared.Tally.{Tally}
-use Rattle.report.specs.Lines.{RuleLines, Tallied, countedIn, lineLimit, linesText}
+use Rattle.report.specs.Lines.{RuleLines, Tallied, countedIn, findingBound, linesText}
 
 -- the first ones as far as they reach
 take-min : (k : ℕ) (fs : List Finding) → take (min (length fs) k) fs ≡ take k fs
@@ -28,7 +28,7 @@ take-min k fs = by-cases (decLt (length fs) k)
 
 -- a search that was begun and written is a rule that is judged
 pub tallied : {s : List ℕ} {l : Layout} {n : Counts} {k : ℕ} {u : Rule} {names : Names} {line : ℕ} {room exit : List ℕ} {b : Tally} {p : Prepared} {r : ℕ} → l ≡ layoutOf width → Starts s l n k u (b .left) p
-    → RuleLines s (p .search) (p .write) names line room (b .at) exit r → r ≤ b .at + lineLimit * p .write
+    → RuleLines s (p .search) (p .write) names line room (b .at) exit r → r ≤ b .at + findingBound * p .write
     → Tallied s n k u names line room b exit (record { at = r; left = b .left - p .write; total = b .total + countedIn (p .answer) })
 tallied {s} {n = n} {k = k} {u = u} {names = names} {line = line} {room = room} {exit = exit} {b = b} {p = p} {r = r} e z w h =
     let text : take (p .write) (z .list) ≡ take (b .left) (z .list) = ap (λ (i : ℕ). take i (z .list)) (z .write) ∙ take-min (b .left) (z .list) in
