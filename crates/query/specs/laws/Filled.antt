@@ -16,7 +16,7 @@ use Rattle.query.specs.Body.{firstItem, Atom, eq, Body, end, atom, not, 
 use Rattle.query.specs.Translation.{link, variables, ofExpr, path, without, bodyOf}
 use Rattle.query.specs.Length.{lengthOf, headLength}
 use Rattle.query.specs.Promise.{itemLimit}
-use Rattle.query.specs.Writing.{SmallHead, Wrote, RoomFor, Roomy, Written, RoomyPath, Pathed, Spacious, Filled}
+use Rattle.query.specs.Writing.{SmallRole, SmallHead, Wrote, RoomFor, Roomy, Written, RoomyPath, Pathed, Spacious, Filled}
 use Rattle.query.specs.laws.Body.{flat-⊕, length-flat}
 use Rattle.query.specs.laws.Length.{size-path, variables-le}
 use Rattle.query.specs.laws.Writing.{then, wrote-length, expr-words, link-words, flat-link}
@@ -106,21 +106,9 @@ filled-free l l₁ ns h g f e w = filled-as l l₁ ns h g e (record { room = w .
 
 -- ---- one atom
 
-pub ref-room : (l : List ℕ) (ns : List Slot) (c : Cursor) (u : RoleUse) → c ≡ start 1 → Spacious l ns (Ref u) → RoomFor l c 3 u
-unfolding headLength
-ref-room l ns c u e s = rw e (record { fits = (let h = s .fits in omega arith); small = s .small })
-
-pub irr-room : (l : List ℕ) (ns : List Slot) (c : Cursor) (u : RoleUse) → c ≡ start 1 → Spacious l ns (Irr u) → RoomFor l c 1 u
-unfolding headLength
-irr-room l ns c u e s = rw e (record { fits = (let h = s .fits in omega arith); small = s .small })
-
-pub rel-room : (l : List ℕ) (ns : List Slot) (c : Cursor) (u : RoleUse) (a b : Item) → c ≡ start 0 → Spacious l ns (Rel u a b) → RoomFor l c 3 u
-unfolding headLength
-rel-room l ns c u a b e s = rw e (record { fits = (let h = s .fits in omega arith); small = s .small .0 })
-
-pub no-rel-room : (l : List ℕ) (ns : List Slot) (c : Cursor) (u : RoleUse) (a b : Item) → c ≡ start 0 → Spacious l ns (NoRel u a b) → RoomFor l c 1 u
-unfolding headLength
-no-rel-room l ns c u a b e s = rw e (record { fits = (let h = s .fits in omega arith); small = s .small .0 })
+-- a role atom of k items at the start
+pub atom-room : (l : List ℕ) (ns : List Slot) (h : Head) (c : Cursor) (u : RoleUse) (j k : ℕ) → c ≡ start j → k ≤ headLength ns h → SmallRole u → Spacious l ns h → RoomFor l c k u
+atom-room l ns h c u j k e n r s = rw e (record { fits = omega (arith, s .fits); small = r })
 
 pub same-room : (l : List ℕ) (ns : List Slot) (c : Cursor) (a b : Item) → c ≡ start 0 → Spacious l ns (Same a b) → c .place + 12 ≤ length l
 unfolding headLength
@@ -164,10 +152,6 @@ differ-filled l l₁ ns c r a b s t e f g w = at-start l l₁ ns (Differ a b) c 
 after : (l l₁ : List ℕ) (c c₁ : Cursor) (k : ℕ) (vs : List ℕ) (n m : ℕ) → c ≡ start k → Wrote l l₁ c c₁ vs n → length vs + m ≤ length l → c₁ .place + m ≤ length l₁
 after l l₁ c c₁ k vs n m e w h = let z : c .place ≡ 0 = ap (λ d. d .place) e in let p = w .place in omega (arith, wrote-length l l₁ c c₁ vs n w)
 
-pub role-sub-room : (l : List ℕ) (ns : List Slot) (c : Cursor) (u v : RoleUse) → c ≡ start 2 → Spacious l ns (RoleSub u v) → RoomFor l c 1 u
-unfolding headLength
-role-sub-room l ns c u v e s = rw e (record { fits = (let h = s .fits in omega arith); small = s .small .0 })
-
 pub role-sub-rest : (l l₁ : List ℕ) (ns : List Slot) (c c₁ : Cursor) (u v : RoleUse) → c ≡ start 2 → Spacious l ns (RoleSub u v) → Wrote l l₁ c c₁ (flat (atom (link u 0 1) end)) 0 → RoomFor l₁ c₁ 3 v
 unfolding headLength
 role-sub-rest l l₁ ns c c₁ u v e s w = record { fits = after l l₁ c c₁ 2 (flat (atom (link u 0 1) end)) 0 12 e w (let h = s .fits in omega (arith, link-words u 0 1)); small = s .small .1 }
@@ -176,10 +160,6 @@ pub role-sub-filled : (l l₁ l₂ : List ℕ) (ns : List Slot) (c c₁ c₂ : C
 unfolding bodyOf
 role-sub-filled l l₁ l₂ ns c c₁ c₂ u v e w x =
     at-start l l₂ ns (RoleSub u v) c c₂ 2 0 (flat (atom (link u 0 1) end) ++ flat (without (link v 0 1))) e (flat-link u 0 1 (without (link v 0 1))) (then l l₁ l₂ c c₁ c₂ (flat (atom (link u 0 1) end)) (flat (without (link v 0 1))) 0 0 w x)
-
-pub dis-room : (l : List ℕ) (ns : List Slot) (c : Cursor) (u v : RoleUse) → c ≡ start 2 → Spacious l ns (Dis u v) → RoomFor l c 1 u
-unfolding headLength
-dis-room l ns c u v e s = rw e (record { fits = (let h = s .fits in omega arith); small = s .small .0 })
 
 pub dis-rest : (l l₁ : List ℕ) (ns : List Slot) (c c₁ : Cursor) (u v : RoleUse) → c ≡ start 2 → Spacious l ns (Dis u v) → Wrote l l₁ c c₁ (flat (atom (link u 0 1) end)) 0 → RoomFor l₁ c₁ 1 v
 unfolding headLength

@@ -1,7 +1,9 @@
 -- `compile::disjoint` meets its contract: two role atoms. Assumes nothing.
 use mathlib.Core.List.{[]}
 use borrow.Author.Needs.{needs}
-use Rattle.query.specs.laws.Filled.{dis-room, dis-rest, dis-filled}
+use native.Mathlib.Omega.{arith}
+use Rattle.query.specs.Length.{headLength}
+use Rattle.query.specs.laws.Filled.{atom-room, dis-rest, dis-filled}
 use Rattle.query.proofs.compile.disjoint.Statement.{statement}
 use Rattle.query.proofs.compile.disjoint.Tie as tie
 
@@ -9,7 +11,8 @@ start-requires : tie.Need-start-requires
 start-requires c κs = search needs
 
 link-requires : tie.Need-link-requires
-link-requires c κs = dis-room _ [] _ _ _ (c .before .start .ensures) (c .before .before .before .pre)
+unfolding headLength
+link-requires c κs = atom-room _ [] _ _ _ 2 1 (c .before .start .ensures) (omega arith) (c .before .before .before .pre .small .0) (c .before .before .before .pre)
 
 link-requires-2 : tie.Need-link-requires-2
 link-requires-2 c κs = dis-rest _ _ [] _ _ _ _ (c .before .before .before .before .before .start .ensures) (c .before .before .before .before .before .before .before .pre) (c .before .before .before .link .ensures)

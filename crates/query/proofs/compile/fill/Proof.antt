@@ -1,6 +1,8 @@
 -- `compile::fill` meets its contract: each arm writes its own kind. Assumes nothing.
 use borrow.Author.Needs.{needs}
-use Rattle.query.specs.laws.Filled.{spacious-as, spacious-free, filled-as, filled-free, ref-room, ref-filled, irr-room, irr-filled}
+use native.Mathlib.Omega.{arith}
+use Rattle.query.specs.Length.{headLength}
+use Rattle.query.specs.laws.Filled.{spacious-as, spacious-free, filled-as, filled-free, atom-room, ref-filled, irr-filled}
 use Rattle.query.proofs.compile.fill.Statement.{statement}
 use Rattle.query.proofs.compile.fill.Tie as tie
 
@@ -29,7 +31,8 @@ start-requires : tie.Need-start-requires
 start-requires c κs = search needs
 
 unlinked-requires : tie.Need-unlinked-requires
-unlinked-requires c κs = ref-room _ _ _ _ (c .before .start .ensures) (spacious-as _ _ _ _ (c .before .before .before .head4 .given .1) (c .before .before .before .before .before .before .pre))
+unfolding headLength
+unlinked-requires c κs = atom-room _ _ _ _ _ 1 3 (c .before .start .ensures) (omega arith) ((spacious-as _ _ _ _ (c .before .before .before .head4 .given .1) (c .before .before .before .before .before .before .pre)) .small) (spacious-as _ _ _ _ (c .before .before .before .head4 .given .1) (c .before .before .before .before .before .before .pre))
 
 enum-known-head-5 : tie.Need-enum-known-head-5
 enum-known-head-5 c = search needs
@@ -38,7 +41,8 @@ start-requires-2 : tie.Need-start-requires-2
 start-requires-2 c κs = search needs
 
 link-requires : tie.Need-link-requires
-link-requires c κs = irr-room _ _ _ _ (c .before .start2 .ensures) (spacious-as _ _ _ _ (c .before .before .before .head5 .given .1) (c .before .before .before .before .before .before .pre))
+unfolding headLength
+link-requires c κs = atom-room _ _ _ _ _ 1 1 (c .before .start2 .ensures) (omega arith) ((spacious-as _ _ _ _ (c .before .before .before .head5 .given .1) (c .before .before .before .before .before .before .pre)) .small) (spacious-as _ _ _ _ (c .before .before .before .head5 .given .1) (c .before .before .before .before .before .before .pre))
 
 enum-known-head-6 : tie.Need-enum-known-head-6
 enum-known-head-6 c = search needs

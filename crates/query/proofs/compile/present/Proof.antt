@@ -1,7 +1,9 @@
 -- `compile::present` meets its contract: a role atom of two items. Assumes nothing.
 use mathlib.Core.List.{[]}
 use borrow.Author.Needs.{needs}
-use Rattle.query.specs.laws.Filled.{no-rel-room, no-rel-filled}
+use native.Mathlib.Omega.{arith}
+use Rattle.query.specs.Length.{headLength}
+use Rattle.query.specs.laws.Filled.{atom-room, no-rel-filled}
 use Rattle.query.proofs.compile.present.Statement.{statement}
 use Rattle.query.proofs.compile.present.Tie as tie
 
@@ -15,7 +17,8 @@ start-requires : tie.Need-start-requires
 start-requires c κs = search needs
 
 link-requires : tie.Need-link-requires
-link-requires c κs = no-rel-room _ [] _ _ _ _ (c .before .start .ensures) (c .before .before .before .before .before .pre)
+unfolding headLength
+link-requires c κs = atom-room _ [] _ _ _ 0 1 (c .before .start .ensures) (omega arith) (c .before .before .before .before .before .pre .small .0) (c .before .before .before .before .before .pre)
 
 same-length : tie.Need-same-length
 same-length c = search needs

@@ -1,7 +1,9 @@
 -- `compile::role_sub` meets its contract: one role atom, then the other inside a not. Assumes nothing.
 use mathlib.Core.List.{[]}
 use borrow.Author.Needs.{needs}
-use Rattle.query.specs.laws.Filled.{role-sub-room, role-sub-rest, role-sub-filled}
+use native.Mathlib.Omega.{arith}
+use Rattle.query.specs.Length.{headLength}
+use Rattle.query.specs.laws.Filled.{atom-room, role-sub-rest, role-sub-filled}
 use Rattle.query.proofs.compile.role_sub.Statement.{statement}
 use Rattle.query.proofs.compile.role_sub.Tie as tie
 
@@ -9,7 +11,8 @@ start-requires : tie.Need-start-requires
 start-requires c κs = search needs
 
 link-requires : tie.Need-link-requires
-link-requires c κs = role-sub-room _ [] _ _ _ (c .before .start .ensures) (c .before .before .before .pre)
+unfolding headLength
+link-requires c κs = atom-room _ [] _ _ _ 2 1 (c .before .start .ensures) (omega arith) (c .before .before .before .pre .small .0) (c .before .before .before .pre)
 
 unlinked-requires : tie.Need-unlinked-requires
 unlinked-requires c κs = role-sub-rest _ _ [] _ _ _ _ (c .before .before .before .before .before .start .ensures) (c .before .before .before .before .before .before .before .pre) (c .before .before .before .link .ensures)
