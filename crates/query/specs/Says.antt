@@ -56,7 +56,7 @@ module _ (C : Cell → Type 0) (n : Counts) where
   All met σ (not p q) = ¬ ((τ : Values) × InRange τ × Agree met σ τ × All met τ p) × All (meets p met) σ q
 
   -- The items xs are an answer of the query with these words, whose first k variables are the answer variables. These belong to no not, wherever first met:
-  -- they are met from the start. The other variables outside of nots need only exist.
+  -- they are met from the start. The other variables outside of nots need only exist. Where no item is declared nothing has an answer; a rule without x names declared items.
   pub record Answer (k : ℕ) (ws : List ℕ) (xs : List ℕ) : Type 0 where
     pub body : Body
     pub says : reads ws ≡ whole body
