@@ -9,4 +9,5 @@ pub mod Promise
 pub mod Table
 pub mod Stands
 pub mod Nodes
+pub mod Pass
 pub mod laws

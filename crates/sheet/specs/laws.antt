@@ -19,4 +19,5 @@ pub mod Within
 pub mod Formed
 pub mod Judged
 pub mod Settled
+pub mod Pass
 pub mod Readings

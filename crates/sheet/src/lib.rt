@@ -6,6 +6,7 @@ pub mod keeping;
 pub mod lines;
 pub mod names;
 pub mod numbers;
+pub mod pass;
 pub mod rules;
 pub mod sheets;
 pub mod statements;
@@ -15,6 +16,7 @@ pub mod walk;
 pub mod words;
 
 use closure::Counts;
+use rule::Rule;
 use rule::Slot;
 
 // The words of concept expressions; None is any other field.
@@ -165,6 +167,14 @@ pub struct Parsed {
     pub nodes: [Slot; 32],
     pub len: usize,
     pub at: usize,
+}
+
+// The next rule of a sheet: whether there is one, the number of its line, the place past that line, and the rule.
+pub struct RuleLine {
+    pub found: bool,
+    pub line: usize,
+    pub past: usize,
+    pub rule: Rule,
 }
 
 // What reading a sheet gives.

@@ -20,7 +20,7 @@ fn blank() -> [Slot; 32]
 }
 
 // A rule without expressions.
-fn bare(head: Head) -> Rule
+pub fn bare(head: Head) -> Rule
     ensures { λ r. ⌜ r ≡ bareRule head ⌝ }
 {
     Rule {

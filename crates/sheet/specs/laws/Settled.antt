@@ -10,6 +10,7 @@ use lib.ListN.{length, length-append}
 use Rattle.text.specs.Split.{fields}
 use Rattle.sheet.specs.declared.Form.{Form}
 use Rattle.sheet.specs.declared.Form.the-variants as form
+use Rattle.sheet.specs.declared.RuleWord.{RuleWord}
 use Rattle.sheet.specs.Fault.{begun, ended, lineFault, none}
 use Rattle.sheet.specs.Said.{Outcome, Said, lineSaid, marksOf, outcomeFrom, saying}
 use Rattle.sheet.specs.Said.Outcome.{accepted, refused}
@@ -24,6 +25,10 @@ or-true : (a : Bool) → (a || true) ≡ true
 or-true true = refl
 or-true false = refl
 
+-- once a rule was accepted, the sheet has begun
+pub rule-begun : (k : ℕ) (x : Said) (w : RuleWord) (fs : List Field) → begun (marksOf (saying k x (form.Rule w) fs)) ≡ true
+rule-begun k x w fs = rw (length-append, lt-ltb 0 (length (x .rules) + 1) (omega arith)) (or-true (not (none (x .statements))))
+
 -- a line of a section that has not ended leaves the names, and what has begun has begun
 module _ (k : ℕ) (x : Said) (fs : List Field) (b : begun (marksOf x) ≡ true) where
   pub saying-settled : (f : Form) → ended (marksOf x) (sectionOf f) ≡ false → (saying k x f fs .names ≡ x .names) × (begun (marksOf (saying k x f fs)) ≡ true)
@@ -31,7 +36,7 @@ module _ (k : ℕ) (x : Said) (fs : List Field) (b : begun (marksOf x) ≡ true)
   saying-settled form.Role e = absurd (true≢false (sym b ∙ e))
   saying-settled form.Item e = absurd (true≢false (sym b ∙ e))
   saying-settled (form.Statement w) e = (refl, rw none-last)
-  saying-settled (form.Rule w) e = (refl, rw (length-append, lt-ltb 0 (length (x .rules) + 1) (omega arith)) (or-true (not (none (x .statements)))))
+  saying-settled (form.Rule w) e = (refl, rule-begun k x w fs)
   saying-settled form.Bare e = (refl, b)
   saying-settled form.Unknown e = (refl, b)
 
