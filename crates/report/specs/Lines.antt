@@ -8,8 +8,6 @@ use Rattle.closure.specs.Layout.{ClosedStore, Holds, width}
 use Rattle.rule.specs.declared.Finding.{Finding}
 use Rattle.rule.specs.declared.Rule.{Rule}
 use Rattle.rule.specs.declared.Search.{Search}
-use Rattle.rule.specs.declared.Total.{Total}
-use Rattle.rule.specs.declared.Total.the-variants.{Count, Refused}
 use Rattle.rule.specs.Findings.{Findings}
 use Rattle.rule.specs.Search.{Coming}
 use Rattle.text.specs.Bytes.{bytes}
@@ -36,11 +34,6 @@ linesText n line (f ∷ fs) = lineText n line f ++ linesText n line fs
 pub record RuleLines (s : List ℕ) (first : Search) (n : ℕ) (names : Names) (line : ℕ) (room : List ℕ) (at : ℕ) (exit : List ℕ) (r : ℕ) : Type 0 where
   pub wrote : (fs : List Finding) → Coming s first fs → n ≤ length fs → Wrote room at (linesText names line (take n fs)) exit r
 
--- the findings that an answer counts
-abbrev pub countedIn : Total → ℕ
-countedIn (Count m) = m
-countedIn (Refused k) = 0
-
 -- no line of a finding has more bytes: three numbers and names at their longest
 abbrev pub findingBound : ℕ
 findingBound = 93
@@ -50,7 +43,7 @@ pub record Tallying (s : List ℕ) (n : Counts) (b : Tally) : Type 0 where
   pub store : ClosedStore width n s
   pub left : b .left ≤ printLimit
   pub at : b .at < 500000
-  pub total : b .total < 100000000
+  pub total : b .total < 1000000000
 
 -- the findings of the rule u, with the number k and in a line: as many as were left to print are written, and all are counted
 pub record Tallied (s : List ℕ) (n : Counts) (k : ℕ) (u : Rule) (names : Names) (line : ℕ) (room : List ℕ) (b : Tally) (exit : List ℕ) (r : Tally) : Type 0 where

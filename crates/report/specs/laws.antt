@@ -1,6 +1,5 @@
 -- What is proved of a sheet's rules.
 pub mod Lines
 pub mod Written
-pub mod Few
 pub mod Tally
 pub mod Printed

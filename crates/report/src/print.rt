@@ -7,14 +7,13 @@ ghost use Rattle.rule.specs.Search.{Ready};
 ghost use Rattle.text.specs.Text.{decimal, Wrote};
 ghost use Rattle.sheet.specs.Promise.{refusedText, secondText, tabbed, totalText};
 ghost use Rattle.sheet.specs.Table.{nameAt, namesOf};
-ghost use Rattle.report.specs.Lines.{RuleLines, Tallied, Tallying, countedIn, lineText};
+ghost use Rattle.report.specs.Lines.{RuleLines, Tallied, Tallying, lineText};
 use crate::Tally;
 use closure::Item;
 use rule::Finding;
 use rule::Rule;
 use rule::Search;
 use rule::Second;
-use rule::Total;
 use sheet::Table;
 
 // The name of an entry.
@@ -133,16 +132,6 @@ fn findings(
     p
 }
 
-// How many findings an answer counts.
-fn counted(t: Total) -> u64
-    ensures { λ r. ⌜ r ≡ countedIn t ⌝ }
-{
-    match t {
-        Total::Count(m) => m,
-        Total::Refused(k) => 0,
-    }
-}
-
 // Judges the rule in a line: prints its findings, as many as are left to print, and counts them all.
 pub fn judge(
     sheet: &[u8],
@@ -164,7 +153,7 @@ pub fn judge(
     let first = p.search;
     let answer = p.answer;
     let at = findings(sheet, t, line, n, words, first, room, b.at);
-    let m = counted(answer);
+    let m = sheet::reads::counted(answer);
     Tally {
         at,
         left: b.left - n,

@@ -5,19 +5,25 @@ use mathlib.Core.List.{List, [], _∷_, _++_}
 use Prim.Native.Nat.{ℕ, _+_, _≤_, _<_}
 use lib.ListN.{length}
 use Rattle.text.specs.Split.{fields, partsFrom}
+use Rattle.closure.specs.Layout.{ClosedStore, Holds, size, width}
+use Rattle.rule.specs.declared.Finding.{Finding}
+use Rattle.rule.specs.declared.Total.{Total}
+use Rattle.rule.specs.declared.Total.the-variants.{Count, Refused}
 use Rattle.sheet.specs.declared.Form.{Form}
 use Rattle.sheet.specs.declared.Form.the-variants as form
 use Rattle.sheet.specs.declared.RuleLine.{RuleLine}
 use Rattle.sheet.specs.declared.RuleWord.{RuleWord}
 use Rattle.sheet.specs.declared.StatementWord.{StatementWord}
 use Rattle.sheet.specs.declared.Table.{Table}
+use Rattle.sheet.specs.declared.Whole.{Whole}
 use Rattle.sheet.specs.Fault.{sheetLimit}
-use Rattle.sheet.specs.Names.{Names}
+use Rattle.sheet.specs.Names.{Names, countsOf}
 use Rattle.sheet.specs.Nodes.{RuleReady}
+use Rattle.sheet.specs.Promise.{FindingsFrom, Reads}
 use Rattle.sheet.specs.Read.{ruleOf}
 use Rattle.sheet.specs.Said.{Said, SheetRule, outcome, outcomeFrom}
 use Rattle.sheet.specs.Said.Outcome.{accepted}
-use Rattle.sheet.specs.Table.{namesOf}
+use Rattle.sheet.specs.Table.{Roomy, namesOf}
 use Rattle.sheet.specs.Words.{Field, bodyOf, formOf}
 
 -- the line of a rule has the fields that are due
@@ -75,3 +81,30 @@ pub record Accepts (sheet : List ℕ) (t : Table) : Type 0 where
 pub record Opened (sheet : List ℕ) (t : Table) (r : RuleLine) : Type 0 where
   pub rule : (x : Said) → outcome sheet ≡ accepted x → x .names ≡ namesOf sheet t → NextRule (r .found) sheet t x [] r
   pub inside : r .past ≤ length sheet + 2
+
+-- the findings that an answer counts
+abbrev pub countedIn : Total → ℕ
+countedIn (Count m) = m
+countedIn (Refused k) = 0
+
+-- the rules `done` of the sheet x have so many findings in the store t
+pub record Counted (x : Said) (t : List ℕ) (done : List SheetRule) (total : ℕ) : Type 0 where
+  pub list : List Finding
+  pub findings : FindingsFrom (Holds width (countsOf (x .names)) t) (countsOf (x .names)) 0 done list
+  pub all : total ≡ length list
+
+-- the sheet with the names of the table t is accepted, and the words s are a closed store for them
+pub record Judges (sheet : List ℕ) (t : Table) (s : List ℕ) : Type 0 where
+  pub room : Roomy t
+  pub sheetSaid : Accepts sheet t
+  pub store : ClosedStore width (t .counts) s
+
+-- its rules have so many findings in all
+abbrev pub Totalled : List ℕ → Table → List ℕ → ℕ → Type 0
+Totalled sheet t s r = (x : Said) → outcome sheet ≡ accepted x → x .names ≡ namesOf sheet t → Counted x s (x .rules) r
+
+-- a sheet was read into the store s, which became t: the answer, and the table of the names if it was accepted
+pub record Wholly (sheet s t : List ℕ) (r : Whole) : Type 0 where
+  pub reads : Reads sheet s t (r .answer)
+  pub room : Roomy (r .table)
+  pub names : (x : Said) → length s ≡ size width → outcome sheet ≡ accepted x → x .names ≡ namesOf sheet (r .table)

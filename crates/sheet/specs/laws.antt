@@ -20,4 +20,7 @@ pub mod Formed
 pub mod Judged
 pub mod Settled
 pub mod Pass
+pub mod Few
+pub mod Count
+pub mod Unique
 pub mod Readings

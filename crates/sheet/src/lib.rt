@@ -7,6 +7,7 @@ pub mod lines;
 pub mod names;
 pub mod numbers;
 pub mod pass;
+pub mod reads;
 pub mod rules;
 pub mod sheets;
 pub mod statements;
@@ -183,6 +184,12 @@ pub enum Reading {
     Accepted(Counts, usize, u64),
     // The line and the number of refusal; line 0 is the whole sheet.
     Refused(usize, usize),
+}
+
+// What reading a sheet gives, and the table of its names.
+pub struct Whole {
+    pub answer: Reading,
+    pub table: Table,
 }
 
 // A sheet.

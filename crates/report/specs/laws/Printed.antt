@@ -22,17 +22,9 @@ use Rattle.sheet.specs.laws.Names.{entered-length}
 use Rattle.sheet.specs.Said.Outcome.{accepted as acceptedSheet}
 use Rattle.report.specs.declared.Tally.{Tally}
 use Rattle.report.specs.Lines.{Printed, Tallied, lineOf, linesText}
-use Rattle.report.specs.laws.Few.{few-from}
+use Rattle.sheet.specs.laws.Count.{findings-snoc}
+use Rattle.sheet.specs.laws.Few.{few-from}
 use Rattle.report.specs.laws.Lines.{findings-more, rule-lines}
-
--- one rule more has its findings after those of the others
-findings-snoc : {C : Cell → Type 0} {n : Counts} {k i : ℕ} {rs : List SheetRule} {fs gs : List Finding} (r : SheetRule) → FindingsFrom C n k rs fs → Findings C n i (r .rule) gs → i ≡ k + length rs
-    → FindingsFrom C n k (rs ++ r ∷ []) (fs ++ gs)
-findings-snoc {C} {n} {k} {i} {gs = gs} r none a e =
-    let at : i ≡ k = omega (arith, e) in
-    subst (λ (hs : List Finding). FindingsFrom C n k (r ∷ []) hs) (append-nil gs) (more (subst (λ (j : ℕ). Findings C n j (r .rule) gs) at a) none)
-findings-snoc {C} {n} {k} {i} {gs = gs} r (more {r = q} {rs = rs} {fs = fs} {gs = hs} b m) a e =
-    subst (λ (ls : List Finding). FindingsFrom C n k (q ∷ (rs ++ r ∷ [])) ls) (sym (append-assoc fs hs gs)) (more b (findings-snoc r m a (omega (arith, e))))
 
 -- the line of the rule after the others
 line-at : (done rest : List SheetRule) (r : SheetRule) → getD (map (λ (q : SheetRule). q .line) (done ++ r ∷ rest)) (length done) 0 ≡ r .line
@@ -81,8 +73,3 @@ printed-all {sheet} {x} {t} {room} {mid} {exit} {b} {at} {r} o words held w z = 
 -- few findings are counted
 pub printed-few : {x : Said} {t : List ℕ} {done : List SheetRule} {room exit : List ℕ} {at : ℕ} {b : Tally} → length (x .names .items) ≤ 128 → Printed x t done room at exit b → b .total ≤ 16512 * length done
 printed-few h w = omega (arith, w .total, few-from h (w .findings))
-
--- the counts of a table are those of its names
-pub counts-named : (sheet : List ℕ) (t : Table) → length (t .concepts) ≡ 32 → length (t .roles) ≡ 16 → length (t .items) ≡ 128 → Roomy t → countsOf (namesOf sheet t) ≡ t .counts
-counts-named sheet t c r i f =
-    rw (entered-length sheet (t .counts .concepts) (t .concepts) (omega (arith, f .concepts)), entered-length sheet (t .counts .roles) (t .roles) (omega (arith, f .roles)), entered-length sheet (t .counts .items) (t .items) (omega (arith, f .items)))

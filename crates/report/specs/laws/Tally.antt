@@ -18,7 +18,8 @@ use Rattle.rule.specs.Search.{Starts}
 use Rattle.text.specs.Text.{Wrote}
 use Rattle.sheet.specs.Names.{Names}
 use Rattle.report.specs.declared.Tally.{Tally}
-use Rattle.report.specs.Lines.{RuleLines, Tallied, countedIn, findingBound, linesText}
+use Rattle.sheet.specs.Pass.{countedIn}
+use Rattle.report.specs.Lines.{RuleLines, Tallied, findingBound, linesText}
 
 -- the first ones as far as they reach
 take-min : (k : ℕ) (fs : List Finding) → take (min (length fs) k) fs ≡ take k fs

@@ -28,7 +28,7 @@ use Rattle.sheet.specs.laws.Accepted.{line-accepted}
 use Rattle.sheet.specs.laws.Settled.{rule-begun, sheet-settled}
 
 -- what was said up to the end
-abbrev saidOf : Outcome → Said
+abbrev pub saidOf : Outcome → Said
 saidOf (refused n w s) = s
 saidOf (accepted s) = s
 

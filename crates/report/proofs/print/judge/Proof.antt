@@ -2,8 +2,8 @@
 use mathlib.Core.Path.{ap, _∙_}
 use native.Mathlib.Omega.{arith}
 use Rattle.closure.specs.laws.Keeps.{laid-of}
-use Rattle.report.specs.Lines.{countedIn}
-use Rattle.report.specs.laws.Few.{few-findings}
+use Rattle.sheet.specs.Pass.{countedIn}
+use Rattle.sheet.specs.laws.Few.{few-findings}
 use Rattle.report.specs.laws.Tally.{tallied}
 use borrow.Author.Needs.{needs}
 use Rattle.report.proofs.print.judge.Statement.{statement}

@@ -1,0 +1,154 @@
+-- Laws of going through the rules of a sheet and counting their findings. Assumes nothing.
+use mathlib.Core.Path.{_≡_, refl, sym, ap, _∙_, subst}
+use mathlib.Core.Bool.{Bool, true, false}
+use mathlib.Core.List.{List, [], _∷_, _++_, append-assoc, append-nil}
+use Prim.Native.Nat.{ℕ, _+_, _≤_}
+use native.Mathlib.Omega.{arith}
+use borrow.Author.Tests.{eq-eqb, ne-eqb}
+use lib.ListN.{length, length-append}
+use Rattle.closure.specs.declared.Counts.{Counts}
+use Rattle.closure.specs.declared.Layout.{Layout}
+use Rattle.closure.specs.Cell.{Cell}
+use Rattle.closure.specs.Layout.{ClosedStore, Holds, layoutOf, size, width}
+use Rattle.rule.specs.declared.Finding.{Finding}
+use Rattle.rule.specs.declared.Prepared.{Prepared}
+use Rattle.rule.specs.declared.Rule.{Rule}
+use Rattle.rule.specs.Findings.{Findings}
+use Rattle.rule.specs.Search.{Starts}
+use Rattle.sheet.specs.declared.Ended.{Ended}
+use Rattle.sheet.specs.declared.Marks.{Marks}
+use Rattle.sheet.specs.declared.Reading.{Reading}
+use Rattle.sheet.specs.declared.Reading.the-variants as reading
+use Rattle.sheet.specs.declared.RuleLine.{RuleLine}
+use Rattle.sheet.specs.declared.Table.{Table}
+use Rattle.sheet.specs.declared.Whole.{Whole}
+use Rattle.sheet.specs.Names.{countsOf}
+use Rattle.sheet.specs.Pass.{Accepts, Counted, Judges, Next, NextRule, Opened, Passing, Paused, Totalled, Wholly, countedIn, foundRule}
+use Rattle.sheet.specs.Promise.{FindingsFrom, FindingsIn, Held, Leaves, Reads}
+use Rattle.sheet.specs.Promise.FindingsFrom.{none, more}
+use Rattle.sheet.specs.Promise.Reads.{wrong-size, refused as refusedRead, accepted as acceptedRead}
+use Rattle.sheet.specs.Said.{Outcome, Said, SheetRule, marksOf, outcome}
+use Rattle.sheet.specs.Said.Outcome.{accepted, refused}
+use Rattle.sheet.specs.Stands.{Opens}
+use Rattle.sheet.specs.Table.{Roomy, namesOf}
+use Rattle.sheet.specs.laws.Few.{few-findings}
+use Rattle.sheet.specs.laws.Pass.{passing-rest, saidOf}
+use Rattle.sheet.specs.laws.Stands.{Places, counts-of}
+
+-- ---- going through the rules
+
+-- the rule q comes next, after n others of which P holds
+pub record Turn (sheet : List ℕ) (t : Table) (x : Said) (P : List SheetRule → Type 0) (q : RuleLine) (n : ℕ) : Type 0 where
+  pub done : List SheetRule
+  pub next : NextRule (q .found) sheet t x done q
+  pub number : n ≡ length done
+  pub holds : P done
+
+module _ {sheet : List ℕ} {t : Table} {x : Said} {P : List SheetRule → Type 0} {q : RuleLine} where
+  pub turn-start : Opened sheet t q → outcome sheet ≡ accepted x → x .names ≡ namesOf sheet t → P [] → Turn sheet t x P q 0
+  turn-start w o n h = record { done = []; next = w .rule x o n; number = refl; holds = h }
+
+  module _ {n : ℕ} (w : Turn sheet t x P q n) where
+    -- no rule comes next: P holds of all
+    pub turn-end : q .found ≡ false → P (x .rules)
+    turn-end f = subst P (sym (subst (λ (b : Bool). NextRule b sheet t x (w .done) q) f (w .next))) (w .holds)
+
+    module _ (f : q .found ≡ true) where
+      pub turn-passing : Passing sheet t x (w .done ++ foundRule q ∷ []) (q .past) (q .line + 1)
+      turn-passing = subst (λ (b : Bool). NextRule b sheet t x (w .done) q) f (w .next)
+
+      -- where the second reading stands then
+      pub turn-paused : Paused sheet t (q .past) (q .line + 1)
+      turn-paused = record { all = x; before = w .done ++ foundRule q ∷ []; passing = turn-passing }
+
+      -- the rule is that of the sheet after those done
+      pub turn-rules : (rest : List SheetRule) × (x .rules ≡ w .done ++ foundRule q ∷ rest)
+      turn-rules = let z = passing-rest turn-passing in (z .0, z .1 ∙ append-assoc (w .done) (foundRule q ∷ []) (z .0))
+
+      -- the next turn
+      pub turn-next : {Q : List SheetRule → Type 0} {r : RuleLine} → Next sheet t (q .past) (q .line + 1) r → Q (w .done ++ foundRule q ∷ []) → Turn sheet t x Q r (n + 1)
+      turn-next z h =
+          record {
+            done = w .done ++ foundRule q ∷ [];
+            next = z .rule x (w .done ++ foundRule q ∷ []) turn-passing;
+            number = omega (arith, w .number, length-append (w .done) (foundRule q ∷ []));
+            holds = h;
+          }
+
+-- ---- findings
+
+-- one rule more has its findings after those of the others
+pub findings-snoc : {C : Cell → Type 0} {n : Counts} {k i : ℕ} {rs : List SheetRule} {fs gs : List Finding} (r : SheetRule) → FindingsFrom C n k rs fs → Findings C n i (r .rule) gs → i ≡ k + length rs
+    → FindingsFrom C n k (rs ++ r ∷ []) (fs ++ gs)
+findings-snoc {C} {n} {k} {i} {gs = gs} r none a e =
+    let at : i ≡ k = omega (arith, e) in
+    subst (λ (hs : List Finding). FindingsFrom C n k (r ∷ []) hs) (append-nil gs) (more (subst (λ (j : ℕ). Findings C n j (r .rule) gs) at a) none)
+findings-snoc {C} {n} {k} {i} {gs = gs} r (more {r = q} {rs = rs} {fs = fs} {gs = hs} b m) a e =
+    subst (λ (ls : List Finding). FindingsFrom C n k (q ∷ (rs ++ r ∷ [])) ls) (sym (append-assoc fs hs gs)) (more b (findings-snoc r m a (omega (arith, e))))
+
+-- the findings of no rule, and of one more
+pub counted-none : (x : Said) (s : List ℕ) → Counted x s [] 0
+counted-none x s = record { list = []; findings = none; all = refl }
+
+pub counted-more : {x : Said} {s : List ℕ} {done : List SheetRule} {total k room : ℕ} {l : Layout} {n : Counts} {p : Prepared} (r : SheetRule) → Counted x s done total → l ≡ layoutOf width → countsOf (x .names) ≡ n → k ≡ length done
+    → Starts s l n k (r .rule) room p → Counted x s (done ++ r ∷ []) (total + countedIn (p .answer))
+counted-more {x} {s} {done} {k = k} {n = n} r w e c i z =
+    record {
+      list = w .list ++ z .list;
+      findings = findings-snoc r (w .findings) found (omega (arith, i));
+      all = omega (arith, w .all, ap countedIn (z .answer), length-append (w .list) (z .list));
+    }
+  where
+    found : Findings (Holds width (countsOf (x .names)) s) (countsOf (x .names)) k (r .rule) (z .list)
+    found = rw c (subst (λ (a : Layout). Findings (Holds (a .width) n s) n k (r .rule) (z .list)) e (z .findings))
+
+-- a rule counts few
+pub counted-few : {s : List ℕ} {k room : ℕ} {l : Layout} {n : Counts} {u : Rule} {p : Prepared} → n .items ≤ 128 → Starts s l n k u room p → countedIn (p .answer) ≤ 16512
+counted-few h z = omega (arith, ap countedIn (z .answer), few-findings h (z .findings))
+
+-- ---- the whole sheet
+
+-- a store of another length
+pub whole-size : (sheet s : List ℕ) (t : Table) → Roomy t → ¬ (length s ≡ size width) → Wholly sheet s s (record { answer = reading.Refused 0 1; table = t })
+whole-size sheet s t h z = record { reads = wrong-size z refl; room = h; names = λ x l o. absurd (z l) }
+
+reads-as : {sheet s t : List ℕ} {x : Said} {fs : List Finding} {n : Counts} {m k : ℕ} → n ≡ countsOf (x .names) → m ≡ length (x .rules) → k ≡ length fs → length s ≡ size width → outcome sheet ≡ accepted x → Held x t
+    → FindingsIn x t fs → Reads sheet s t (reading.Accepted n m k)
+reads-as e f g l o h a = rw (e, f, g) (acceptedRead l o h a)
+
+module _ {sheet s t : List ℕ} {e : Ended} (long : length s ≡ size width) (w : Opens sheet s t e) where
+  -- a refused sheet
+  pub whole-refused : (e .why ≡ 0 → ⊥) → Wholly sheet s t (record { answer = reading.Refused (e .line) (e .why); table = e .kept .table })
+  whole-refused z =
+      let o : outcome sheet ≡ refused (e .line) (e .why) (w .said) = w .ends ∙ rw (ne-eqb _ _ z) in
+      record {
+        reads = refusedRead long o (rw (ne-eqb _ _ z) at (w .leaves));
+        room = w .room;
+        names = λ x l a. absurd (other (sym o ∙ a));
+      }
+    where
+      other : {n k : ℕ} {x y : Said} → refused n k x ≡ accepted y → ⊥
+      other q = let z : _≡_ {A = ℕ} 0 1 = cc in omega arith
+
+  -- an accepted one
+  module _ (p : Places (e .kept .table)) (z : e .why ≡ 0) where
+    whole-outcome : outcome sheet ≡ accepted (w .said)
+    whole-outcome = w .ends ∙ rw (eq-eqb _ _ z)
+
+    whole-held : Held (w .said) t
+    whole-held = rw (eq-eqb _ _ z) at (w .leaves)
+
+    whole-counts : countsOf (w .said .names) ≡ e .kept .table .counts
+    whole-counts = ap countsOf (w .names) ∙ counts-of sheet (e .kept .table) p (w .room)
+
+    pub whole-judges : Judges sheet (e .kept .table) t
+    whole-judges = record { room = w .room; sheetSaid = record { said = w .said; ends = whole-outcome; names = w .names }; store = rw whole-counts at (whole-held .store) }
+
+    pub whole-accepted : {total : ℕ} → Totalled sheet (e .kept .table) t total → Wholly sheet s t (record { answer = reading.Accepted (e .kept .table .counts) (e .kept .marks .rules) total; table = e .kept .table })
+    whole-accepted {total} c =
+        let a = c (w .said) whole-outcome (w .names) in
+        record {
+          reads = reads-as (sym whole-counts) (sym (ap (λ (m : Marks). m .rules) (w .marks))) (a .all) long whole-outcome whole-held (a .findings);
+          room = w .room;
+          names = λ x l o. ap (λ (y : Outcome). saidOf y .names) (sym o ∙ whole-outcome) ∙ w .names;
+        }
