@@ -3,6 +3,7 @@ use mathlib.Core.Path.{_≡_}
 use mathlib.Core.List.{List, [], _∷_, _++_, map}
 use Prim.Native.Nat.{ℕ, _+_, _*_, _-_, _≤_, _<_}
 use lib.ListN.{length, getD, take}
+use Rattle.row.specs.Bit.{Words}
 use Rattle.closure.specs.declared.Counts.{Counts}
 use Rattle.closure.specs.Layout.{ClosedStore, Holds, width}
 use Rattle.rule.specs.declared.Finding.{Finding}
@@ -13,8 +14,13 @@ use Rattle.rule.specs.Search.{Coming}
 use Rattle.text.specs.Bytes.{bytes}
 use Rattle.text.specs.Text.{decimal, Wrote}
 use Rattle.sheet.specs.Names.{Names, countsOf}
-use Rattle.sheet.specs.Promise.{FindingsFrom, findingsText, printLimit, secondText, tabbed}
-use Rattle.sheet.specs.Said.{Said, SheetRule}
+use Rattle.sheet.specs.declared.Ended.{Ended}
+use Rattle.sheet.specs.declared.Table.{Table}
+use Rattle.sheet.specs.Promise.{FindingsFrom, Prints, findingsText, printLimit, secondText, tabbed}
+use Rattle.sheet.specs.Said.{Said, SheetRule, outcome}
+use Rattle.sheet.specs.Said.Outcome.{accepted}
+use Rattle.sheet.specs.Stands.{Opens}
+use Rattle.sheet.specs.Table.{namesOf}
 use Rattle.report.specs.declared.Tally.{Tally}
 
 -- the line number of the rule with the number k
@@ -61,3 +67,21 @@ pub record Printed (x : Said) (t : List ℕ) (done : List SheetRule) (room : Lis
   pub wrote : Wrote room at (findingsText x (take printLimit list)) exit (b .at)
   pub left : b .left ≡ printLimit - length list
   pub total : b .total ≡ length list
+
+-- all rules of the accepted sheet are judged, the text from the room's start on; the place and the total stay small
+pub record JudgedAll (sheet : List ℕ) (t : Table) (s : List ℕ) (room exit : List ℕ) (r : Tally) : Type 0 where
+  pub printed : (x : Said) → outcome sheet ≡ accepted x → x .names ≡ namesOf sheet t → Printed x s (x .rules) room 0 exit r
+  pub near : r .at ≤ findingBound * printLimit
+
+-- the store t was filled with the sheet, whose lines ended so
+pub record Filled (sheet t : List ℕ) (e : Ended) : Type 0 where
+  pub store : List ℕ
+  pub opens : Opens sheet store t e
+  pub words : Words 64 t
+
+-- the text that is printed for the sheet was written at the start of the room, as far as it reaches, and r is its length
+pub record Pages (sheet room exit : List ℕ) (r : ℕ) : Type 0 where
+  pub text : List ℕ
+  pub prints : Prints sheet text
+  pub wrote : Wrote room 0 text exit r
+  pub short : r ≤ 18700

@@ -3,3 +3,4 @@ pub mod Lines
 pub mod Written
 pub mod Tally
 pub mod Printed
+pub mod Page

@@ -1,4 +1,5 @@
 // What is printed of a sheet: its rules, their findings, the text.
+pub mod page;
 pub mod print;
 
 // How far the findings are printed: the place in the room, how many more may be printed, and how many there are so far in all.

@@ -17,7 +17,7 @@ pub fn put(room: &mut [u8], at: usize, b: u8) -> usize
 
 // Writes bytes at a place of the room, as far as it reaches; gives the place past them.
 pub fn put_all(room: &mut [u8], at: usize, bytes: &[u8]) -> usize
-    requires { ⌜ (at < 1000000) × (length (now bytes) ≤ 512) ⌝ }
+    requires { ⌜ (at < 1000000) × (length (now bytes) ≤ 100000) ⌝ }
     ensures { λ r. ⌜ Wrote (now (room .entry)) at (now (bytes .entry)) (now (room .exit)) r ⌝ }
 {
     let mut i = 0;

@@ -32,7 +32,7 @@ use Rattle.sheet.specs.Said.Outcome.{accepted, refused}
 use Rattle.sheet.specs.Stands.{Opens}
 use Rattle.sheet.specs.Table.{Roomy, namesOf}
 use Rattle.sheet.specs.laws.Few.{few-findings}
-use Rattle.sheet.specs.laws.Pass.{passing-rest, saidOf}
+use Rattle.sheet.specs.laws.Pass.{not-both, passing-rest, saidOf}
 use Rattle.sheet.specs.laws.Stands.{Places, counts-of}
 
 -- ---- going through the rules
@@ -116,39 +116,33 @@ reads-as : {sheet s t : List ℕ} {x : Said} {fs : List Finding} {n : Counts} {m
     → FindingsIn x t fs → Reads sheet s t (reading.Accepted n m k)
 reads-as e f g l o h a = rw (e, f, g) (acceptedRead l o h a)
 
-module _ {sheet s t : List ℕ} {e : Ended} (long : length s ≡ size width) (w : Opens sheet s t e) where
-  -- a refused sheet
-  pub whole-refused : (e .why ≡ 0 → ⊥) → Wholly sheet s t (record { answer = reading.Refused (e .line) (e .why); table = e .kept .table })
-  whole-refused z =
-      let o : outcome sheet ≡ refused (e .line) (e .why) (w .said) = w .ends ∙ rw (ne-eqb _ _ z) in
-      record {
-        reads = refusedRead long o (rw (ne-eqb _ _ z) at (w .leaves));
-        room = w .room;
-        names = λ x l a. absurd (other (sym o ∙ a));
-      }
-    where
-      other : {n k : ℕ} {x y : Said} → refused n k x ≡ accepted y → ⊥
-      other q = let z : _≡_ {A = ℕ} 0 1 = cc in omega arith
+-- an accepted sheet: its outcome, its store, its counts
+module _ {sheet s t : List ℕ} {e : Ended} (w : Opens sheet s t e) (z : e .why ≡ 0) where
+  pub opens-outcome : outcome sheet ≡ accepted (w .said)
+  opens-outcome = w .ends ∙ rw (eq-eqb _ _ z)
 
-  -- an accepted one
-  module _ (p : Places (e .kept .table)) (z : e .why ≡ 0) where
-    whole-outcome : outcome sheet ≡ accepted (w .said)
-    whole-outcome = w .ends ∙ rw (eq-eqb _ _ z)
+  pub opens-held : Held (w .said) t
+  opens-held = rw (eq-eqb _ _ z) at (w .leaves)
 
-    whole-held : Held (w .said) t
-    whole-held = rw (eq-eqb _ _ z) at (w .leaves)
+  module _ (p : Places (e .kept .table)) where
+    opens-counts : countsOf (w .said .names) ≡ e .kept .table .counts
+    opens-counts = ap countsOf (w .names) ∙ counts-of sheet (e .kept .table) p (w .room)
 
-    whole-counts : countsOf (w .said .names) ≡ e .kept .table .counts
-    whole-counts = ap countsOf (w .names) ∙ counts-of sheet (e .kept .table) p (w .room)
+    pub opens-judges : Judges sheet (e .kept .table) t
+    opens-judges = record { room = w .room; sheetSaid = record { said = w .said; ends = opens-outcome; names = w .names }; store = rw opens-counts at (opens-held .store) }
 
-    pub whole-judges : Judges sheet (e .kept .table) t
-    whole-judges = record { room = w .room; sheetSaid = record { said = w .said; ends = whole-outcome; names = w .names }; store = rw whole-counts at (whole-held .store) }
-
-    pub whole-accepted : {total : ℕ} → Totalled sheet (e .kept .table) t total → Wholly sheet s t (record { answer = reading.Accepted (e .kept .table .counts) (e .kept .marks .rules) total; table = e .kept .table })
-    whole-accepted {total} c =
-        let a = c (w .said) whole-outcome (w .names) in
+    pub whole-accepted : {total : ℕ} → length s ≡ size width → Totalled sheet (e .kept .table) t total
+        → Wholly sheet s t (record { answer = reading.Accepted (e .kept .table .counts) (e .kept .marks .rules) total; table = e .kept .table })
+    whole-accepted {total} long c =
+        let a = c (w .said) opens-outcome (w .names) in
         record {
-          reads = reads-as (sym whole-counts) (sym (ap (λ (m : Marks). m .rules) (w .marks))) (a .all) long whole-outcome whole-held (a .findings);
+          reads = reads-as (sym opens-counts) (sym (ap (λ (m : Marks). m .rules) (w .marks))) (a .all) long opens-outcome opens-held (a .findings);
           room = w .room;
-          names = λ x l o. ap (λ (y : Outcome). saidOf y .names) (sym o ∙ whole-outcome) ∙ w .names;
+          names = λ x l o. ap (λ (y : Outcome). saidOf y .names) (sym o ∙ opens-outcome) ∙ w .names;
         }
+
+-- a refused one
+pub whole-refused : {sheet s t : List ℕ} {e : Ended} → length s ≡ size width → Opens sheet s t e → (e .why ≡ 0 → ⊥) → Wholly sheet s t (record { answer = reading.Refused (e .line) (e .why); table = e .kept .table })
+whole-refused {sheet} {e = e} long w z =
+    let o : outcome sheet ≡ refused (e .line) (e .why) (w .said) = w .ends ∙ rw (ne-eqb _ _ z) in
+    record { reads = refusedRead long o (rw (ne-eqb _ _ z) at (w .leaves)); room = w .room; names = λ x l a. absurd (not-both (sym o ∙ a)) }

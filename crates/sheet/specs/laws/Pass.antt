@@ -32,6 +32,10 @@ abbrev pub saidOf : Outcome → Said
 saidOf (refused n w s) = s
 saidOf (accepted s) = s
 
+-- a sheet is not both refused and accepted
+pub not-both : {n k : ℕ} {x y : Said} → refused n k x ≡ accepted y → ⊥
+not-both q = let z : _≡_ {A = ℕ} 0 1 = cc in omega arith
+
 -- ---- lines of an accepted sheet
 
 -- a line of an accepted sheet has no fault, and the lines after it are accepted

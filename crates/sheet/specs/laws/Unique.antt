@@ -21,7 +21,7 @@ use Rattle.sheet.specs.Promise.Prints.{refused as refusedPrint, accepted
 use Rattle.sheet.specs.Promise.Reads.{wrong-size, refused as refusedRead, accepted as acceptedRead}
 use Rattle.sheet.specs.Said.{Outcome, Said, SheetRule, marksOf}
 use Rattle.sheet.specs.Said.Outcome.{accepted, refused}
-use Rattle.sheet.specs.laws.Pass.{saidOf}
+use Rattle.sheet.specs.laws.Pass.{not-both, saidOf}
 
 -- the findings of rules
 pub from-unique : {C : Cell → Type 0} {n : Counts} {k : ℕ} {rs : List SheetRule} {fs gs : List Finding} → FindingsFrom C n k rs fs → FindingsFrom C n k rs gs → fs ≡ gs
@@ -45,10 +45,6 @@ lineIn (accepted x) = 0
 abbrev numberIn : Outcome → ℕ
 numberIn (refused n k x) = k
 numberIn (accepted x) = 0
-
--- a sheet is not both refused and accepted
-not-both : {n k : ℕ} {x y : Said} → refused n k x ≡ accepted y → ⊥
-not-both q = let z : _≡_ {A = ℕ} 0 1 = cc in omega arith
 
 -- an accepted sheet has one store, and one list of findings
 pub found-unique : {x y : Said} {t u : List ℕ} {fs gs : List Finding} → y ≡ x → Words 64 t → Words 64 u → Held x t → Held y u → FindingsIn x t fs → FindingsIn y u gs → (t ≡ u) × (fs ≡ gs)

@@ -1,6 +1,6 @@
 -- `sheet::reads::whole` meets its contract. Assumes nothing.
 use mathlib.Core.Path.{_≡_}
-use Rattle.sheet.specs.laws.Count.{whole-accepted, whole-judges, whole-refused, whole-size}
+use Rattle.sheet.specs.laws.Count.{opens-judges, whole-accepted, whole-refused, whole-size}
 use Rattle.sheet.specs.laws.Stands.{Places}
 use borrow.Author.Needs.{needs}
 use native.Mathlib.Omega.{arith}
@@ -20,7 +20,7 @@ count-all-requires : tie.Need-count-all-requires
 count-all-requires c κs =
     let g = (c .before .before .before .before .before .before .before .before .before .fill .ok) in
     let p : Places ((c .before .before .before .before .before .before .before .before .before .fill .result) .kept .table) = record { concepts = search needs; roles = search needs; items = search needs } in
-    whole-judges (c .before .before .before .before .before .before .before .before .before .before .before .if1 .left) (c .before .before .before .before .before .before .before .before .before .fill .ensures) p (c .before .before .before .if2 .taken)
+    opens-judges (c .before .before .before .before .before .before .before .before .before .fill .ensures) (c .before .before .before .if2 .taken) p
 
 same-length : tie.Need-same-length
 same-length c = search needs
@@ -29,7 +29,7 @@ returns-2 : tie.Need-returns-2
 returns-2 c =
     let g = (c .before .before .before .before .before .before .before .before .before .before .fill .ok) in
     let p : Places ((c .before .before .before .before .before .before .before .before .before .before .fill .result) .kept .table) = record { concepts = search needs; roles = search needs; items = search needs } in
-    whole-accepted (c .before .before .before .before .before .before .before .before .before .before .before .before .if1 .left) (c .before .before .before .before .before .before .before .before .before .before .fill .ensures) p (c .before .before .before .before .if2 .taken) (c .count-all .ensures)
+    whole-accepted (c .before .before .before .before .before .before .before .before .before .before .fill .ensures) (c .before .before .before .before .if2 .taken) p (c .before .before .before .before .before .before .before .before .before .before .before .before .if1 .left) (c .count-all .ensures)
 
 same-length-2 : tie.Need-same-length-2
 same-length-2 c = search needs
