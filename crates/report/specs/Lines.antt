@@ -3,7 +3,6 @@ use mathlib.Core.Path.{_≡_}
 use mathlib.Core.List.{List, [], _∷_, _++_, map}
 use Prim.Native.Nat.{ℕ, _+_, _*_, _-_, _≤_, _<_}
 use lib.ListN.{length, getD, take}
-use Rattle.row.specs.Bit.{Words}
 use Rattle.closure.specs.declared.Counts.{Counts}
 use Rattle.closure.specs.Layout.{ClosedStore, Holds, width}
 use Rattle.rule.specs.declared.Finding.{Finding}
@@ -21,6 +20,7 @@ use Rattle.sheet.specs.Said.{Said, SheetRule, outcome}
 use Rattle.sheet.specs.Said.Outcome.{accepted}
 use Rattle.sheet.specs.Stands.{Opens}
 use Rattle.sheet.specs.Table.{namesOf}
+use Rattle.sheet.specs.laws.Stands.{Places}
 use Rattle.report.specs.declared.Tally.{Tally}
 
 -- the line number of the rule with the number k
@@ -77,7 +77,7 @@ pub record JudgedAll (sheet : List ℕ) (t : Table) (s : List ℕ) (room exit : 
 pub record Filled (sheet t : List ℕ) (e : Ended) : Type 0 where
   pub store : List ℕ
   pub opens : Opens sheet store t e
-  pub words : Words 64 t
+  pub places : Places (e .kept .table)
 
 -- the text that is printed for the sheet was written at the start of the room, as far as it reaches, and r is its length
 pub record Pages (sheet room exit : List ℕ) (r : ℕ) : Type 0 where

@@ -1,0 +1,51 @@
+// The whole text of a sheet.
+ghost use Rattle.sheet.specs.Pass.{Judges};
+ghost use Rattle.report.specs.Lines.{Filled, JudgedAll, Pages};
+use crate::Tally;
+use sheet::Ended;
+use sheet::Sheet;
+use sheet::Table;
+
+// Judges the rules of an accepted sheet one after the other: prints their findings and counts them.
+fn judge_all(sheet: &[u8], t: Table, words: &[u64], room: &mut [u8]) -> Tally
+    requires { ⌜ Judges (now sheet) t (now words) ⌝ }
+    ensures { λ r. ⌜ JudgedAll (now (sheet .entry)) t (now (words .entry)) (now (room .entry)) (now (room .exit)) r ⌝ }
+{
+    let mut q = sheet::pass::first(sheet, t);
+    let mut n = 0;
+    let mut b = Tally {
+        at: 0,
+        left: Sheet::PRINTED,
+        total: 0,
+    };
+    while q.found {
+        let u = q.rule;
+        b = crate::print::judge(sheet, t, q.line, n, u, words, room, b);
+        n += 1;
+        q = sheet::pass::next(sheet, t, q.past, q.line + 1);
+    }
+    b
+}
+
+// Writes the text of a sheet whose lines ended so, with the store that they filled.
+fn print_ended(sheet: &[u8], e: Ended, words: &[u64], room: &mut [u8]) -> usize
+    requires { ⌜ Filled (now sheet) (now words) e ⌝ }
+    ensures { λ r. ⌜ Pages (now (sheet .entry)) (now (room .entry)) (now (room .exit)) r ⌝ }
+{
+    if e.why == 0 {
+        let kept = e.kept;
+        let t = kept.table;
+        let b = judge_all(sheet, t, words, room);
+        return crate::print::total(room, b.at, b.total);
+    }
+    crate::print::refused(room, 0, e.line, e.why)
+}
+
+// Writes the text that is printed for a sheet, as far as the room reaches; gives the length of the whole text.
+pub fn page(sheet: &[u8], room: &mut [u8]) -> usize
+    ensures { λ r. ⌜ Pages (now (sheet .entry)) (now (room .entry)) (now (room .exit)) r ⌝ }
+{
+    let mut words = [0u64; 4528];
+    let e = sheet::sheets::fill(sheet, &mut words);
+    print_ended(sheet, e, &words, room)
+}
