@@ -1,7 +1,10 @@
 /*
- * Saltreeve: the store of what follows from a sheet's statements.
+ * Saltreeve: the check of a whole sheet, and the store of what follows from a
+ * sheet's statements.
  *
- * The caller lends 4,528 words of 64 bits and says with each call how many
+ * saltreeve_check, the last function below, takes a sheet's bytes and needs
+ * nothing else; docs/HOST.md has an example. The others work on a store: the
+ * caller lends 4,528 words of 64 bits and says with each call how many
  * items, concepts and roles are declared. Items, concepts and roles are
  * numbered apart, each from 0.
  *
@@ -15,7 +18,7 @@
  *
  * Divisions drop the rest. All other bits are 0.
  *
- * Every function hands back a count of cells, or minus the number of refusal:
+ * Those functions hand back a count of cells, or minus the number of refusal:
  *
  *   -1  length is not 4,528, or a declared count is over its limit
  *   -2  the store is not closed: a cell that follows from its cells and the
@@ -25,8 +28,8 @@
  *
  * Where more than one applies, the lowest number is given. A refusal changes
  * no word. `words` must point to `length` words that the caller may read and
- * write; NULL is not allowed. Nothing is kept between calls: all there is to
- * know is in the words lent and the three counts.
+ * write; NULL is not allowed. Nothing is kept between calls of any function:
+ * all there is to know is in what is lent and the numbers given.
  */
 #ifndef SALTREEVE_H
 #define SALTREEVE_H
@@ -41,6 +44,9 @@
 #define SALTREEVE_ITEMS 128
 #define SALTREEVE_CONCEPTS 32
 #define SALTREEVE_ROLES 16
+
+/* Room in bytes that suffices for the text of any sheet. */
+#define SALTREEVE_TEXT 12814
 
 #ifdef __cplusplus
 extern "C" {
@@ -105,6 +111,18 @@ int64_t saltreeve_add_in(uint64_t *words, size_t length,
 int64_t saltreeve_add_link(uint64_t *words, size_t length,
                            uint64_t items, uint64_t concepts, uint64_t roles,
                            uint64_t role, uint64_t a, uint64_t b);
+
+/*
+ * Checks a sheet: writes to `room` the text that the program `check` prints for
+ * it, which is its findings and their total, or the one line of a refused sheet.
+ * Returns the number of bytes written; the room past them is untouched. Returns
+ * -8 exactly if the text is longer than the room, which is then untouched as a
+ * whole. A sheet may have any bytes and any length. Both pointers must point to
+ * as many bytes as their lengths say; NULL is not allowed, also where a length
+ * is 0. The room must not overlap the sheet.
+ */
+int64_t saltreeve_check(const uint8_t *sheet, size_t sheet_length,
+                        uint8_t *room, size_t room_length);
 
 #ifdef __cplusplus
 }

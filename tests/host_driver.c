@@ -23,12 +23,6 @@
 
 enum { TEXT_TOO_LONG = -8 };
 
-/*
- * Checks a sheet. Returns the number of bytes of the text written to `room`, whose
- * bytes past them stay as they are, or -8 if the text is longer than the room.
- */
-int64_t saltreeve_check(const uint8_t *sheet, size_t sheet_length, uint8_t *room, size_t room_length);
-
 /* What is lent, what is due, and where the test is. */
 struct run {
     struct lent sheet, text, room;

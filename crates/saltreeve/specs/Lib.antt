@@ -1,3 +1,4 @@
 -- What other languages get.
 pub mod Code
+pub mod Check
 pub mod laws

@@ -1,2 +1,3 @@
--- What is proved of the answers as numbers.
+-- What is proved of the answers as numbers, and of the sheet check.
 pub mod Code
+pub mod Check

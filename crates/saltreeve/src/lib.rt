@@ -3,6 +3,7 @@ ghost use mathlib.Core.Bool.{not};
 ghost use lib.Dec.{eqb};
 ghost use Rattle.closure.specs.Cell.{cellOf};
 ghost use Rattle.closure.specs.Cell.Cell.{Same, Under, RoleUnder, In, Link};
+ghost use Rattle.saltreeve.specs.Check.{Checks};
 ghost use Rattle.saltreeve.specs.Code.{AddCode, FreshCode, Small, codeOf, counts};
 
 // What other languages call: the entry points under their C names, and nothing else.
@@ -178,4 +179,18 @@ pub extern "C" fn saltreeve_add_link(
         },
         s,
     )
+}
+
+// Checks a sheet: writes the text that is printed for it into the lent room, or nothing if it is longer than the room.
+#[no_mangle]
+pub extern "C" fn saltreeve_check(sheet: &[u8], room: &mut [u8]) -> i64
+    ensures { λ r. ⌜ Checks (now (sheet .entry)) (now (room .entry)) (now (room .exit)) r ⌝ }
+{
+    let mut own = [0u8; 18700];
+    let n = report::page::page(sheet, &mut own);
+    if room.len() < n {
+        return -8;
+    }
+    text::write::put_all(room, 0, &own[..n]);
+    n as i64
 }
