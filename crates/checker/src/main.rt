@@ -1,4 +1,6 @@
 // The program: reads a sheet on standard input and prints what is found.
+ghost use Prim.Native.Nat.{_≤_};
+ghost use lib.ListN.{length};
 use libc::STDERR_FILENO;
 use libc::STDIN_FILENO;
 use libc::STDOUT_FILENO;
@@ -10,7 +12,9 @@ fn ended() -> bool {
 }
 
 // Prints the text for the first n bytes of what was read.
-fn print(sheet: &[u8], n: usize) {
+fn print(sheet: &[u8], n: usize)
+    requires { ⌜ n ≤ length (now sheet) ⌝ }
+{
     let mut room = [0u8; 18700];
     let k = report::page::page(&sheet[..n], &mut room);
     if !io::write_all(STDOUT_FILENO, &room[..k]) {
