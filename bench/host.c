@@ -71,11 +71,9 @@ static double best_time(double seconds)
 {
     double best = time_of(1);
     double calls = seconds * 1e9 / ROUNDS / (best + 1);
-    for (int round = 0; round < ROUNDS; round++) {
+    for (int round = 0; round < ROUNDS && best < seconds * 1e9; round++) {
         double time = time_of(calls < 1 ? 1 : (uint64_t)calls);
         best = time < best ? time : best;
-        if (best * ROUNDS > seconds * 1e9)
-            break;
     }
     return best;
 }
