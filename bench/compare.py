@@ -9,6 +9,7 @@ import re
 import shutil
 import subprocess
 import sys
+import threading
 import time
 from concurrent.futures import ThreadPoolExecutor
 from pathlib import Path
@@ -27,11 +28,15 @@ CALL_SECONDS = 0.2       # how long calls in one process are timed, for each she
 CALL_TURNS = 3
 PROGRAM_RUNS = 25
 CALL_LIMIT = 30          # seconds for one call, also where instructions are counted
-TOTAL_SECONDS = 540      # for the whole run; what is not begun by then is left out
+TOTAL_SECONDS = 500      # for the whole run; what is not begun by then is left out
 ENGINE_SECONDS = 300     # for all engines together
 AIM_INSTRUCTIONS = 1.5   # times the plain checker's
 AIM_ENGINES = 50         # times faster than each engine
 STAND_IN = "stand-in"
+
+
+class Disagreement(Exception):
+    """Two checkers print different texts, or one gives none."""
 
 
 class Clock:
@@ -59,6 +64,8 @@ class Checker:
                                   timeout=max(Clock.at_most(CALL_LIMIT), 0), check=True)
         except subprocess.TimeoutExpired:
             return None
+        except subprocess.CalledProcessError as ended:
+            raise Disagreement(f"{self.name} ends with status {ended.returncode} (host {' '.join(words)})") from ended
 
     # The text of a sheet.
     def text(self, path):
@@ -88,9 +95,12 @@ class Checker:
         for _ in range(PROGRAM_RUNS):
             with open(path, "rb") as sheet:
                 process = subprocess.Popen([str(self.program)], stdin=sheet, stdout=subprocess.PIPE)
+                stop = threading.Timer(CALL_LIMIT, process.kill)
+                stop.start()
                 text = process.stdout.read().decode("latin-1")
                 _, status, used = os.wait4(process.pid, 0)
                 process.returncode = os.waitstatus_to_exitcode(status)
+                stop.cancel()
                 process.stdout.close()
             seconds = used.ru_utime + used.ru_stime
             best = seconds if best is None else min(best, seconds)
@@ -136,10 +146,6 @@ def print_table(title, head, rows):
 # --- Agreement ---
 
 
-class Disagreement(Exception):
-    """Two checkers print different texts."""
-
-
 # Fails if a text is not the one due, and says where.
 def same_text(sheet, who, text, other, due):
     if text == due:
@@ -176,7 +182,7 @@ def print_sheets(drawn, texts):
         words = [line.split("\t")[0] for line in sheet.decode().split("\n")]
         rows.append([name, f"{len(sheet):,}", *(str(words.count(word)) for word in ("item", "concept", "role")),
                      str(sum(words.count(word) for word in ("in", "rel", "same", "under", "runder"))),
-                     str(words.count("rel")), str(words.count("rule")), texts[name][1].split()[-1]])
+                     str(words.count("rel")), str(words.count("rule")), texts[name][1].split()[-1] if name in texts else "-"])
     print_table("The sheets", ["Sheet", "Bytes", "Items", "Families", "Roles", "Statements", "of them `rel`", "Rules", "Findings"],
                 rows)
 
@@ -238,13 +244,15 @@ def print_worst(pairs):
 # The programs, one process a sheet: the checkers' and the engines'.
 def print_programs(checkers, paths, texts, runs):
     checkers = [checker for checker in checkers if checker.program is not None]
+    if not checkers:
+        return
     engines = list(dict.fromkeys(engine for _, engine in runs))
     rows = []
     for name, path in paths.items():
         figures = []
         for checker in checkers:
             seconds, text = checker.run_program(path)
-            same_text(name, f"the program of {checker.name}", text, *texts[name])
+            same_text(name, f"the program of {checker.name}", text, *texts.setdefault(name, (checker.name, text)))
             figures.append(seconds)
         row = [name, *map(time_shown, figures), *([ratio_shown(*figures)] if len(figures) == 2 else [])]
         for engine in engines:
@@ -291,7 +299,7 @@ def engine_runs(engines, drawn, limit):
 def engines_agree(runs, texts):
     for (name, engine), run in runs.items():
         if run.text is not None:
-            same_text(name, engine, run.text, *texts[name])
+            same_text(name, engine, run.text, *texts.setdefault(name, (engine, run.text)))
         elif run.note.startswith("failed"):
             raise Disagreement(f"{name}: {engine} {run.note}")
 
@@ -306,7 +314,7 @@ def engine_cells(run, ours):
     if run.seconds is None:
         return [run.note, "-"]
     net = max(run.seconds - run.start, 0)
-    return [run.note or time_shown(net), ("over " if run.note else "") + ratio_shown(net, ours)]
+    return [run.note or time_shown(net), ("over " if run.note and ours else "") + ratio_shown(net, ours)]
 
 
 # The engines against the call of the first checker.
@@ -325,9 +333,9 @@ def print_engines(engines, runs, names, times, ours):
 
 
 # Which texts are missing, so that there is nothing to agree with.
-def print_agreement(runs, texts, checkers):
+def print_agreement(names, runs, texts, checkers):
     missing = [f"{engine} on {name}" for (name, engine), run in runs.items() if run.text is None]
-    missing += [f"{checkers[0].name} on {name}" for name, (who, _) in texts.items() if who != checkers[0].name]
+    missing += [f"{checkers[0].name} on {name}" for name in names if texts.get(name, ("",))[0] != checkers[0].name]
     if missing:
         print(f"\nAll that gave their findings in time agree. Nothing is known of: {', '.join(missing)}.")
     else:
@@ -369,7 +377,7 @@ def checkers_of(chosen):
 def main():
     parser = argparse.ArgumentParser(description="Judges the same sheets with Saltreeve and its peers (bench/run builds them).")
     parser.add_argument("--seed", type=int, default=sheets.DEFAULT_SEED, help="the seed that the sheets are drawn from")
-    parser.add_argument("--limit", type=float, default=60, help="seconds that an engine has for a sheet")
+    parser.add_argument("--limit", type=float, default=60, help="seconds of processor time that an engine has for a sheet")
     parser.add_argument("--no-engines", action="store_true", help="leave the engines out")
     parser.add_argument("--no-growth", action="store_true", help="leave the growth series out")
     parser.add_argument("--stand-in", action="store_true", help="measure the tests' stand-in instead of Saltreeve")
@@ -396,7 +404,7 @@ def main():
     except Disagreement as difference:
         print(f"bench: NOT in agreement: {difference}", file=sys.stderr)
         return 1
-    print_agreement(runs, texts, checkers)
+    print_agreement(paths, runs, texts, checkers)
     print(f"The run took {time.monotonic() - begin:.0f} s.")
     return 0
 

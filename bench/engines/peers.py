@@ -1,7 +1,10 @@
 """The engines that people would otherwise use: what each needs, how it is called, what it prints."""
 
+import math
 import os
+import resource
 import shutil
+import signal
 import subprocess
 import tempfile
 import time
@@ -45,19 +48,21 @@ PEERS = (
 )
 
 
-# Waits for a process; its processor time, or None if it was stopped at the limit.
+# Waits for a process; its processor time, or None if it was stopped. The limit is of processor time, which the system
+# keeps; a process that waits for something is stopped after twice that.
 def wait_for(process, limit):
-    deadline = time.monotonic() + limit
+    whole = math.ceil(limit)
+    resource.prlimit(process.pid, resource.RLIMIT_CPU, (whole, whole + 1))
+    deadline = time.monotonic() + 2 * limit
     while True:
         done, status, used = os.wait4(process.pid, os.WNOHANG)
         if done:
             process.returncode = os.waitstatus_to_exitcode(status)
-            return used.ru_utime + used.ru_stime
+            stopped = process.returncode in (-signal.SIGXCPU, -signal.SIGKILL)
+            return None if stopped else used.ru_utime + used.ru_stime
         if time.monotonic() > deadline:
             process.kill()
-            os.wait4(process.pid, 0)
-            process.returncode = -9
-            return None
+            deadline = math.inf
         time.sleep(POLL_SECONDS)
 
 
