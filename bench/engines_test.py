@@ -38,10 +38,10 @@ def agrees(peer, seed, sheets):
         due = oracle_sheets.judge(sheet)
         if due.number is not None:
             continue
-        run = peers.judge(peer, sheet, SECONDS)
-        if run.text != due.text:
-            print(f"{peer.name}: seed {seed}: difference in {name}: {run.note}\n{sheet.decode()}\n"
-                  f"expected:\n{due.text}\ngot:\n{run.text}")
+        _, text, note = peers.judge_once(peer, sheet, SECONDS)
+        if text != due.text:
+            print(f"{peer.name}: seed {seed}: difference in {name}: {note}\n{sheet.decode()}\n"
+                  f"expected:\n{due.text}\ngot:\n{text}")
             return None
         count += 1
     return count
