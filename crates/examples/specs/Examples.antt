@@ -28,6 +28,8 @@ use Rattle.query.specs.declared.Outcome.the-variants.{Compiled}
 use Rattle.query.specs.Body.{size}
 use Rattle.query.specs.Translation.{ofExpr}
 use Rattle.query.specs.Promise.{Compiles}
+use Rattle.text.specs.Bytes.{bytes}
+use Rattle.text.specs.Date.{dateShaped}
 
 -- two items, nothing else
 abbrev pub twoItems : Counts
@@ -60,7 +62,7 @@ pub record IsAtLeast (k : ℕ) (u : Rule) : Type 0 where
   pub right : nodeAt (u .nodes) 1 ≡ AtLeast k (record { role = record { 0 = 0 }; inverse = false }) 2
   pub filler : nodeAt (u .nodes) 2 ≡ Name (record { 0 = 1 })
 
--- all the examples that are marked P so far
+-- all the examples that are marked P
 pub record Examples : Type 0 where
   -- R under inverse of R, R links a to b: R links b to a
   pub own-inverse : {n : Counts} {s : List ℕ} {r a b : ℕ} → ClosedStore width n s → Holds width n s (RoleUnder r true r) → Holds width n s (Link r a b) → Holds width n s (Link r b a)
@@ -87,3 +89,7 @@ pub record Examples : Type 0 where
   -- at least 2 R D: 7; 3: 15, for each role, each concept, each term and whatever the next variable
   pub seven-items : (r : RoleUse) (d : Concept) (t v : ℕ) → size (ofExpr (many 2 r (name d)) t v) ≡ 7
   pub fifteen-items : (r : RoleUse) (d : Concept) (t v : ℕ) → size (ofExpr (many 3 r (name d)) t v) ≡ 15
+  -- 3-Mar, 03-MAR date-shaped
+  pub dates : (dateShaped (bytes "3-Mar") ≡ true) × (dateShaped (bytes "03-MAR") ≡ true)
+  -- MAR-03, 32-Mar, 0-Mar, 003-Mar not
+  pub no-dates : (dateShaped (bytes "MAR-03") ≡ false) × (dateShaped (bytes "32-Mar") ≡ false) × (dateShaped (bytes "0-Mar") ≡ false) × (dateShaped (bytes "003-Mar") ≡ false)

@@ -6,6 +6,7 @@ pub mod Read
 pub mod Fault
 pub mod Said
 pub mod Promise
+pub mod Demand3
 pub mod Table
 pub mod Stands
 pub mod Nodes

@@ -23,4 +23,5 @@ pub mod Pass
 pub mod Few
 pub mod Count
 pub mod Unique
+pub mod Demand3
 pub mod Readings

@@ -2,6 +2,7 @@
 use Rattle.examples.specs.Examples.{Examples}
 use Rattle.examples.specs.laws.Store.{same-itself, same-two}
 use mathlib.Core.Path.{refl}
+use Rattle.text.specs.laws.Dates.{dates}
 use Rattle.examples.specs.laws.Queries.{five-items}
 use Rattle.examples.specs.laws.Rules.{ref-none, ref-one, two-articles, one-article}
 
@@ -19,4 +20,6 @@ examples = record {
   five-items = five-items;
   seven-items = λ r d t v. refl;
   fifteen-items = λ r d t v. refl;
+  dates = (dates .0, dates .1);
+  no-dates = (dates .2, dates .3, dates .4, dates .5);
 }

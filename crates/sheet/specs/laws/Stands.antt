@@ -53,7 +53,7 @@ makes-keeps {n} {s} z (make-refused l e) = absurd (no-fault (l .applies))
     no-fault (wrong-size f) = f z
 
 -- the same cells given under another name
-keeps-iff : {n : Counts} {G H : Cell → Type 0} {s : List ℕ} → ((c : Cell) → G c → H c) → ((c : Cell) → H c → G c) → Keeps width n G s → Keeps width n H s
+pub keeps-iff : {n : Counts} {G H : Cell → Type 0} {s : List ℕ} → ((c : Cell) → G c → H c) → ((c : Cell) → H c → G c) → Keeps width n G s → Keeps width n H s
 keeps-iff f g k = record { store = k .store; sound = λ c h. follows-all (λ d x. given (f d x)) (k .sound c h); whole = λ c h. k .whole c (follows-all (λ d x. given (g d x)) h) }
 
 -- a fresh store holds what follows from no statement
