@@ -1,3 +1,4 @@
--- The findings of a rule in the caller's list. Definitions here; what is proved of them in laws.
+-- The findings of a rule, and of all rules of a sheet, in the caller's list. Definitions here; what is proved of them in laws.
 pub mod Listing
+pub mod Trail
 pub mod laws

@@ -1,4 +1,6 @@
-// The findings of a rule, written into the caller's list.
+// The findings of a rule, and of all rules of a sheet, written into the caller's list.
+pub mod trails;
+
 ghost use Prim.Native.Nat.{_<_, _≤_};
 ghost use lib.ListN.{length};
 ghost use Rattle.rule.specs.Search.{Ready};
@@ -6,10 +8,32 @@ ghost use Rattle.closure.specs.Layout.{width};
 ghost use Rattle.rule.specs.Promise.{Lists};
 ghost use Rattle.listing.specs.Listing.{Written};
 use closure::Counts;
+use closure::Layout;
 use rule::Finding;
+use rule::Head;
 use rule::Rule;
 use rule::Search;
 use rule::Total;
+use sheet::Table;
+
+// A search for the findings of all rules of a sheet: the finding at hand, the parts of its rule's search, and how many findings that rule has left, the one at hand with them; then the
+// sheet's names, the place past the rule's line, the number of the line there, and the next rule's number.
+pub struct Trail {
+    pub finding: Finding,
+    pub x: usize,
+    pub y: usize,
+    pub row: [u64; 8],
+    pub left: [u64; 8],
+    pub right: [u64; 8],
+    pub head: Head,
+    pub at: Layout,
+    pub counts: Counts,
+    pub more: u64,
+    pub names: Table,
+    pub past: usize,
+    pub line: usize,
+    pub number: usize,
+}
 
 // Writes the first n findings from the search on into the list.
 fn write(list: &mut [Finding], n: usize, words: &[u64], first: Search)
