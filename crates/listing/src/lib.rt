@@ -3,10 +3,11 @@ pub mod trails;
 
 ghost use Prim.Native.Nat.{_<_, _≤_};
 ghost use lib.ListN.{length};
-ghost use Rattle.rule.specs.Search.{Ready};
+ghost use Rattle.rule.specs.Search.{Met, Ready};
 ghost use Rattle.closure.specs.Layout.{width};
 ghost use Rattle.rule.specs.Promise.{Lists};
 ghost use Rattle.listing.specs.Listing.{Written};
+ghost use Rattle.listing.specs.Trail.{Going, Went};
 use closure::Counts;
 use closure::Layout;
 use rule::Finding;
@@ -38,7 +39,7 @@ pub struct Trail {
 // Writes the first n findings from the search on into the list.
 fn write(list: &mut [Finding], n: usize, words: &[u64], first: Search)
     requires { ⌜ (n ≤ length (now list)) × (0 < n → Ready (now words) first) ⌝ }
-    ensures { λ _. ⌜ Written (now (words .entry)) first n (now (list .entry)) (now (list .exit)) ⌝ }
+    ensures { λ _. ⌜ Written (Met (now (words .entry)) first) n (now (list .entry)) (now (list .exit)) ⌝ }
 {
     let mut c = first;
     let mut i = 0;
@@ -64,4 +65,18 @@ pub fn findings(
     let c = p.search;
     write(list, n, words, c);
     p.answer
+}
+
+// Writes the first n findings from the trail on into the list.
+fn write_all(list: &mut [Finding], n: usize, sheet: &[u8], words: &[u64], first: Trail)
+    requires { ⌜ (n ≤ length (now list)) × (0 < n → Going (now sheet) (now words) first) ⌝ }
+    ensures { λ _. ⌜ Written (Went (now (sheet .entry)) (now (words .entry)) first) n (now (list .entry)) (now (list .exit)) ⌝ }
+{
+    let mut c = first;
+    let mut i = 0;
+    while i < n {
+        list[i] = c.finding;
+        c = trails::step(sheet, words, c);
+        i += 1;
+    }
 }

@@ -47,7 +47,7 @@ use Rattle.rule.specs.declared.Finding.{Finding}
 use Rattle.rule.specs.declared.Search.{Search}
 use Rattle.rule.specs.declared.Prepared.{Prepared}
 use Rattle.rule.specs.declared.Total.{Total}
-use Rattle.rule.specs.Search.{Ready, Prepares}
+use Rattle.rule.specs.Search.{Met, Prepares, Ready}
 use Rattle.rule.proofs.Rule as R
 use Rattle.rule.proofs.Rule.Laws as R′
 use Rattle.rule.proofs.Finding as T
@@ -258,8 +258,8 @@ module _ {M : Type 1} (𝓤 : URA M) (H : Heap 𝓤) (A : Atoms 𝓤) (W : Given
         -- [what `write` asks; what s owns; _12; …; _11; …; ..]
         calls-at ! fm (Write 𝓤 H A mem run) known-write (to-write p) (and-then ! (load ! (from ! (stop !)) (look ! 2 refl)) (and-then ! (load ! (from ! (stop !)) (look ! 12 refl)) (and-then ! (load ! (from ! (stop !)) (look ! 24 refl)) (and-then ! (load ! (from ! (stop !)) (look ! 10 {q = fullShare} {τ = tyAt (code.function .locals) 8} {b = l₈} {o = 0} {v = mc (p .search)} refl)) (no-more !))))) (λ w.
         use1 W (later (some (λ (r : Unit {0}). ((‵ (flft κ′ q′) ⊛ ‵ (flft κ q) ⊛ ‵ ftrue) ⊛ ‵ (Nothing .own r (w ∷ []))) ⊛ raw (ensured 𝓤 H A wr.ended (wr.clauses 𝓤 H A mem run) (κ′, (κ, tt)) (ref, (p .write, (s, (p .search, tt)))) tt r)))) (id⊢ 𝓤 _) $ await ! tt $ pick ! (λ r.
-        split ! $ move ! (1 ∷ []) $ use1 W (some (λ (zs : List Finding × (Unit {0} × (Unit {0} × (Unit {0} × Unit {0})))). ‵ (lasts wr.ended (κ′, (κ, tt)) (ref, (p .write, (s, (p .search, tt)))) zs) ⊛ raw (fact 𝓤 (Written (now s) (p .search) (p .write) ys (zs .0))))) (id⊢ 𝓤 _) $ pick ! (λ zs.
-        split ! $ move ! (1 ∷ []) $ heard ! (Written (now s) (p .search) (p .write) ys (zs .0)) (λ e′. fsplit ! $ fsplit ! $ move ! (1 ∷ []) $ feqL ! (λ l.
+        split ! $ move ! (1 ∷ []) $ use1 W (some (λ (zs : List Finding × (Unit {0} × (Unit {0} × (Unit {0} × Unit {0})))). ‵ (lasts wr.ended (κ′, (κ, tt)) (ref, (p .write, (s, (p .search, tt)))) zs) ⊛ raw (fact 𝓤 (Written (Met (now s) (p .search)) (p .write) ys (zs .0))))) (id⊢ 𝓤 _) $ pick ! (λ zs.
+        split ! $ move ! (1 ∷ []) $ heard ! (Written (Met (now s) (p .search)) (p .write) ys (zs .0)) (λ e′. fsplit ! $ fsplit ! $ move ! (1 ∷ []) $ feqL ! (λ l.
         -- [the last list; …; the tokens and the result; what s owns; _12; …; ..]
         move ! (2 ∷ []) $ split ! $ move ! (1 ∷ []) $ feqL ! (λ unit.
         -- [the tokens; the last list; …; what s owns; _12; …; ..]

@@ -50,7 +50,7 @@ use denote.Triple.Spec.{Meets, tripleOf}
 use denote.Triple.Table.{entered, cited}
 use denote.Triple.Walked.{says, needs, Stays, stay-slice, stay-none, stay-none-slice, walkOf, AllGo, goes-slice, goes-none, goes-none-slice, Walks, ends-at, walked, walk-meets}
 use denote.Exit.{yes}
-use Rattle.rule.specs.Search.{Ready, Stepped}
+use Rattle.rule.specs.Search.{Met, Ready, Stepped}
 use Rattle.listing.specs.Listing.{WroteTo, Written}
 use Rattle.listing.specs.laws.Written.{wrote-start, wrote-more, wrote-length}
 use Rattle.rule.specs.declared.Finding.{Finding}
@@ -149,7 +149,7 @@ module _ {M : Type 1} (𝓤 : URA M) (H : Heap 𝓤) (A : Atoms 𝓤) (W : Given
   OwnS = ShrSlice (named 1) κ′ u64 .own s (sv ∷ [])
 
   -- the exit, where the list is l
-  exits : (l : List Finding) → length l ≡ length ys → Written (now s) first n ys l → Room T.the-row (length ys) → n < 2 ^ 64 → Is U.the-row first (mc first ∷ [])
+  exits : (l : List Finding) → length l ≡ length ys → Written (Met (now s) first) n ys l → Room T.the-row (length ys) → n < 2 ^ 64 → Is U.the-row first (mc first ∷ [])
       → ent 𝓤 (⋆ 𝓤 H A (‵ (fobs γ (codedHoleys T.the-row .code (heres T.the-row l))) ∷ ‵ (fbor κ (Held T.the-row (length l) b o γ)) ∷ ‵ (flft κ q) ∷ ‵ OwnS ∷ ‵ (flft κ′ q′) ∷ [])) (Post vunit)
   exits l len e room n-fits g =
       qed W (‵ (fobs γ (codedHoleys T.the-row .code (heres T.the-row l))) ∷ ‵ (fbor κ (Held T.the-row (length l) b o γ)) ∷ ‵ (flft κ q) ∷ ‵ OwnS ∷ ‵ (flft κ′ q′) ∷ []) ∵
@@ -200,7 +200,7 @@ module _ {M : Type 1} (𝓤 : URA M) (H : Heap 𝓤) (A : Atoms 𝓤) (W : Given
 
     -- where t turns are left
     abbrev Facts : ℕ → ℕ → Search → List Finding → Type 0
-    Facts t i c l = (i + t ≡ n) × WroteTo (now s) first ys i c l × (0 < t → Ready (now s) c) × Is U.the-row c (mc c ∷ [])
+    Facts t i c l = (i + t ≡ n) × WroteTo (Met (now s) first) ys i c l × (0 < t → Ready (now s) c) × Is U.the-row c (mc c ∷ [])
 
     -- what a turn changes: the number written, the cursor and the list
     abbrev St : Type 0
@@ -255,7 +255,7 @@ module _ {M : Type 1} (𝓤 : URA M) (H : Heap 𝓤) (A : Atoms 𝓤) (W : Given
         by ! (k r e (subst (Is U.the-row r) (LL.tells U.the-type U′.the-laws r (u ∷ []) is) is)))))))
 
     -- the turn that leaves the loop, and the rest of the body
-    ends : (c : Search) (l : List Finding) (X : SProp 𝓤) → length l ≡ length ys → Written (now s) first n ys l → ent 𝓤 (⋆ 𝓤 H A (At n c l)) (Wp 𝓤 H C Λ En mir′.turn-1 (afterTurn 𝓤 H X Left))
+    ends : (c : Search) (l : List Finding) (X : SProp 𝓤) → length l ≡ length ys → Written (Met (now s) first) n ys l → ent 𝓤 (⋆ 𝓤 H A (At n c l)) (Wp 𝓤 H C Λ En mir′.turn-1 (afterTurn 𝓤 H X Left))
     unfolding afterTurn
     ends c l X len e =
         qed W (At n c l) ∵ exec ! C Λ En mir′.turn-1 (anyQ (afterTurn 𝓤 H X Left)) $
@@ -280,14 +280,14 @@ module _ {M : Type 1} (𝓤 : URA M) (H : Heap 𝓤) (A : Atoms 𝓤) (W : Given
     turn-at : (t i : ℕ) (c : Search) (l : List Finding) → Facts t i c l → ent 𝓤 (⋆ 𝓤 H A (At i c l)) (Wp 𝓤 H C Λ En mir′.turn-1 (afterTurn 𝓤 H (Below t) Left))
     turn-at zero i c l f =
         let e : i ≡ n = omega (arith, f .0) in
-        subst (λ (k : ℕ). ent 𝓤 (⋆ 𝓤 H A (At k c l)) (Wp 𝓤 H C Λ En mir′.turn-1 (afterTurn 𝓤 H (Below zero) Left))) (sym e) (ends c l (Below zero) (wrote-length (omega (arith, f .0)) (f .1)) (record { last = c; wrote = subst (λ (k : ℕ). WroteTo (now s) first ys k c l) e (f .1) }))
+        subst (λ (k : ℕ). ent 𝓤 (⋆ 𝓤 H A (At k c l)) (Wp 𝓤 H C Λ En mir′.turn-1 (afterTurn 𝓤 H (Below zero) Left))) (sym e) (ends c l (Below zero) (wrote-length (omega (arith, f .0)) (f .1)) (record { last = c; wrote = subst (λ (k : ℕ). WroteTo (Met (now s) first) ys k c l) e (f .1) }))
     turn-at (suc t) i c l f =
         let small : i < n = omega (arith, f .0) in
         let len : length l ≡ length ys = wrote-length (omega (arith, f .0)) (f .1) in
         let within : i < length l = omega (arith, f .0) in
         more i c l (Below (suc t)) small within (off-fits i (length ys) (omega (arith, f .0)) (room .1)) (omega arith) (f .2 (omega arith)) (f .3) (λ r e g.
         via 𝓤 (Inv t)
-        (inv-in t (suc i) r (set l i (c .finding)) (omega (arith, f .0), wrote-more (omega (arith, f .0)) (f .1) e, (λ _. e .ready), g))
+        (inv-in t (suc i) r (set l i (c .finding)) (omega (arith, f .0), wrote-more (omega (arith, f .0)) (f .1) (λ fs m. Met.more m e), (λ _. e .ready), g))
         (via 𝓤 (guard 𝓤 (t < suc t) (Inv t)) (guardI 𝓤 (t < suc t) (Inv t) (omega arith)) (exI 𝓤 (λ (u : ℕ). guard 𝓤 (u < suc t) (Inv u)) t)))
 
     -- the same from the invariant itself
@@ -297,7 +297,7 @@ module _ {M : Type 1} (𝓤 : URA M) (H : Heap 𝓤) (A : Atoms 𝓤) (W : Given
 
     -- the loop, from its start
     loops : ent 𝓤 (⋆ 𝓤 H A (At 0 first ys)) (Wp 𝓤 H C Λ En (loop mir′.turn-1) Left)
-    loops = via 𝓤 (Inv n) (inv-in n 0 first ys (omega arith, wrote-start, ready₀, g₀)) (loop-rule 𝓤 H (W .laws) 𝓣 _<_ (Nat·lt-wfRel .wf) En mir′.turn-1 Left Inv turns n)
+    loops = via 𝓤 (Inv n) (inv-in n 0 first ys (omega arith, wrote-start Met.start, ready₀, g₀)) (loop-rule 𝓤 H (W .laws) 𝓣 _<_ (Nat·lt-wfRel .wf) En mir′.turn-1 Left Inv turns n)
 
   -- the MIR, up to the loop
   walk : (𝓣 : Tables 𝓤 H) → Triple 𝓤 (𝓣 .C #rule·seek·step) (Step 𝓤 H A mem run) → Room T.the-row (length ys) → n < 2 ^ 64 → Is (ShrSlice (named 1) κ′ u64) s (sv ∷ []) → Is U.the-row first (mc first ∷ []) → (n ≤ length ys) × (0 < n → Ready (now s) first)

@@ -1,7 +1,7 @@
 -- From what the writer does to the promise: the list begins with the first findings, and goes on as it was. Assumes nothing.
 use mathlib.Core.Path.{_≡_, sym, ap, _∙_, subst}
-use mathlib.Core.List.{List, [], _∷_, _++_}
-use Prim.Native.Nat.{ℕ, _≤_}
+use mathlib.Core.List.{List, _++_}
+use Prim.Native.Nat.{ℕ}
 use native.Mathlib.Omega.{arith}
 use lib.ListN.{length, take, drop}
 use Rattle.closure.specs.declared.Counts.{Counts}
@@ -12,24 +12,19 @@ use Rattle.rule.specs.declared.Rule.{Rule}
 use Rattle.rule.specs.declared.Total.{Total}
 use Rattle.rule.specs.Promise.{Lists}
 use Rattle.rule.specs.Promise.Lists.{refused, listed}
-use Rattle.rule.specs.Search.{Opens, Prepares}
+use Rattle.rule.specs.Search.{Met, Opens, Prepares}
 use Rattle.rule.specs.Search.Opens.{refused as not-opened, judged}
 use Rattle.rule.specs.laws.Search.{met-first}
 use Rattle.listing.specs.Listing.{Written}
+use Rattle.listing.specs.laws.Written.{written-first, written-none}
 
 -- the writer's work is the listing
-pub lists-by : {s : List ℕ} {n : Counts} {k : ℕ} {u : Rule} {before after : List Finding} {p : Prepared} → Prepares s n k u (length before) p → Written s (p .search) (p .write) before after
+pub lists-by : {s : List ℕ} {n : Counts} {k : ℕ} {u : Rule} {before after : List Finding} {p : Prepared} → Prepares s n k u (length before) p → Written (Met s (p .search)) (p .write) before after
     → Lists width n k u s before after (p .answer)
 lists-by {s} {n} {k} {u} {before} {after} {p} a w = go (a .opens)
   where
     go : Opens s n k u (length before) p → Lists width n k u s before after (p .answer)
-    go (not-opened l e z) = subst (λ (r : Total). Lists width n k u s before after r) (sym e) (refused l (w .wrote .list ∙ nothing (w .wrote .found) (w .wrote .count ∙ z)))
-      where
-        nothing : (ms : List Finding) → length ms ≡ 0 → ms ++ drop (p .write) before ≡ before
-        nothing [] q = ap (λ (i : ℕ). drop i before) z
-        nothing (m ∷ ms) q = absurd (omega arith)
+    go (not-opened l e z) = subst (λ (r : Total). Lists width n k u s before after r) (sym e) (refused l (written-none z w))
     go (judged {fs = fs} d f e z c) =
-        let few : length (w .wrote .found) ≤ length fs = omega (arith, z, w .wrote .count) in
-        let first-ones : take (p .write) fs ≡ w .wrote .found = ap (λ (i : ℕ). take i fs) (sym (w .wrote .count)) ∙ met-first (w .wrote .met) c few in
         subst (λ (r : Total). Lists width n k u s before after r) (sym e)
-        (listed d f (w .wrote .list ∙ ap (λ (ms : List Finding). ms ++ drop (p .write) before) (sym first-ones) ∙ ap (λ (i : ℕ). take i fs ++ drop i before) z))
+        (listed d f (written-first fs (λ ms g m h. met-first m c h) (omega (arith, z)) w ∙ ap (λ (i : ℕ). take i fs ++ drop i before) z))

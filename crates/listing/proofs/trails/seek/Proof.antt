@@ -1,5 +1,4 @@
 -- `listing::trails::seek` meets its contract: no rule from the first place to this one has a finding. Assumes nothing.
-use mathlib.Core.Path.{_∙_, sym}
 use mathlib.Core.List.{List}
 use Prim.Native.Nat.{_+_, _-_, _≤_}
 use lib.ListN.{length}
