@@ -1,20 +1,21 @@
 -- A trail along the findings of all rules of a sheet, as a writer steps it.
 use mathlib.Core.Path.{_≡_}
 use mathlib.Core.List.{List, [], _∷_, _++_}
-use Prim.Native.Nat.{ℕ, _≤_, _<_}
+use Prim.Native.Nat.{ℕ, min, _≤_, _<_}
 use lib.ListN.{length, drop}
-use Rattle.closure.specs.Layout.{ClosedStore, Holds, width}
+use Rattle.closure.specs.Layout.{ClosedStore, Holds, size, width}
 use Rattle.rule.specs.declared.Finding.{Finding}
 use Rattle.rule.specs.declared.Search.{Search}
-use Rattle.rule.specs.declared.Total.{Total}
-use Rattle.rule.specs.declared.Total.the-variants.{Count, Refused}
 use Rattle.rule.specs.Search.{Coming, Ready}
+use Rattle.sheet.specs.declared.Reading.the-variants.{Accepted, Refused}
 use Rattle.sheet.specs.declared.Table.{Table}
 use Rattle.sheet.specs.Pass.{Passing, Paused}
-use Rattle.sheet.specs.Promise.{FindingsFrom}
+use Rattle.sheet.specs.Names.{countsOf}
+use Rattle.sheet.specs.Promise.{FindingsFrom, FindingsIn, Held, Reads}
 use Rattle.sheet.specs.Said.{Said, SheetRule, outcome}
-use Rattle.sheet.specs.Said.Outcome.{accepted}
+use Rattle.sheet.specs.Said.Outcome.{accepted as acceptedSheet}
 use Rattle.sheet.specs.Table.{namesOf}
+use Rattle.listing.specs.declared.Opening.{Opening}
 use Rattle.listing.specs.declared.Trail.{Trail}
 
 -- the search of the rule at hand
@@ -41,11 +42,6 @@ trailAt s more names past line number =
       line = line;
       number = number;
     }
-
--- the findings that an answer counts
-abbrev pub countedIn : Total → ℕ
-countedIn (Count m) = m
-countedIn (Refused k) = 0
 
 -- these are the findings of the rules past a place of the sheet, where a line with the number given begins; the first of the rules has the number k
 pub record Beyond (sheet s : List ℕ) (names : Table) (past line k : ℕ) (fs : List Finding) : Type 0 where
@@ -98,4 +94,16 @@ pub record Sought (sheet s : List ℕ) (names : Table) (past line k : ℕ) (c : 
 -- the trail at the first of all findings of an accepted sheet
 pub record First (sheet s : List ℕ) (names : Table) (c : Trail) : Type 0 where
   pub going : Going sheet s c
-  pub onward : (x : Said) (fs : List Finding) → outcome sheet ≡ accepted x → x .names ≡ namesOf sheet names → FindingsFrom (Holds width (names .counts) s) (names .counts) 0 (x .rules) fs → Onward sheet s c fs
+  pub onward : (x : Said) (fs : List Finding) → outcome sheet ≡ acceptedSheet x → x .names ≡ namesOf sheet names → FindingsIn x s fs → Onward sheet s c fs
+
+-- how a reading with a list of `room` places begins: refused, with nothing to write; or at the first of all findings
+pub data Begins (sheet s t : List ℕ) (room : ℕ) (p : Opening) : Type 0 where
+  refused : {n k : ℕ} → Reads sheet s t (Refused n k) → p .answer ≡ Refused n k → p .write ≡ 0 → Begins sheet s t room p
+  accepted : {x : Said} {fs : List Finding} → length s ≡ size width → outcome sheet ≡ acceptedSheet x → Held x t → FindingsIn x t fs
+      → p .answer ≡ Accepted (countsOf (x .names)) (length (x .rules)) (length fs) → p .write ≡ min (length fs) room → Onward sheet t (p .trail) fs → Begins sheet s t room p
+
+-- the same with what the writer asks
+pub record Opens (sheet s t : List ℕ) (room : ℕ) (p : Opening) : Type 0 where
+  pub fits : p .write ≤ room
+  pub going : 0 < p .write → Going sheet t (p .trail)
+  pub begins : Begins sheet s t room p

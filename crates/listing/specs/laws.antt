@@ -2,3 +2,4 @@
 pub mod Written
 pub mod Lists
 pub mod Trail
+pub mod Opens

@@ -15,6 +15,7 @@ use rule::Head;
 use rule::Rule;
 use rule::Search;
 use rule::Total;
+use sheet::Reading;
 use sheet::Table;
 
 // A search for the findings of all rules of a sheet: the finding at hand, the parts of its rule's search, and how many findings that rule has left, the one at hand with them; then the
@@ -34,6 +35,13 @@ pub struct Trail {
     pub past: usize,
     pub line: usize,
     pub number: usize,
+}
+
+// What reading a sheet with a list needs: its answer, how many findings to write, and the trail at the first.
+pub struct Opening {
+    pub answer: Reading,
+    pub write: usize,
+    pub trail: Trail,
 }
 
 // Writes the first n findings from the search on into the list.

@@ -1,16 +1,17 @@
 // The findings of all rules of an accepted sheet, one after the other. What is public here is a part with a `requires`, not an entry point.
 ghost use mathlib.Core.Path.{_≡_};
-ghost use Prim.Native.Nat.{_≤_};
+ghost use Prim.Native.Nat.{min, _≤_};
 ghost use Rattle.closure.specs.Layout.{ClosedStore, width};
 ghost use Rattle.sheet.specs.Pass.{Accepts, Paused};
-ghost use Rattle.listing.specs.Trail.{Ended, First, Going, Sought, Steps, countedIn, searchOf, trailAt};
+ghost use Rattle.listing.specs.Trail.{Ended, First, Going, Opens, Sought, Steps, searchOf, trailAt};
+use crate::Opening;
 use crate::Trail;
 use closure::Item;
 use rule::Finding;
 use rule::Head;
 use rule::Search;
 use rule::Second;
-use rule::Total;
+use sheet::Reading;
 use sheet::Table;
 
 // The search of the rule at hand.
@@ -91,16 +92,6 @@ pub fn ended(names: Table, past: usize, line: usize, number: usize) -> Trail
     trail_at(s, 0, names, past, line, number)
 }
 
-// How many findings an answer counts.
-fn counted(t: Total) -> u64
-    ensures { λ r. ⌜ r ≡ countedIn t ⌝ }
-{
-    match t {
-        Total::Count(m) => m,
-        Total::Refused(k) => 0,
-    }
-}
-
 // The trail at the first finding of the rules past a place of the sheet, where a line with the number given begins; the first of these rules has its number too.
 fn seek(sheet: &[u8], words: &[u64], names: Table, from: usize, first: usize, rule: usize) -> Trail
     requires { ⌜ ClosedStore width (names .counts) (now words) × Paused (now sheet) names from first × (rule ≤ from) ⌝ }
@@ -119,7 +110,7 @@ fn seek(sheet: &[u8], words: &[u64], names: Table, from: usize, first: usize, ru
         let u = r.rule;
         let p = rule::seek::start(words, at, counts, number, u, 0);
         let answer = p.answer;
-        let more = counted(answer);
+        let more = sheet::reads::counted(answer);
         past = r.past;
         line = r.line + 1;
         number += 1;
@@ -150,4 +141,43 @@ pub fn first(sheet: &[u8], words: &[u64], names: Table) -> Trail
 {
     let end = text::part::end_of(sheet, 0, 10);
     seek(sheet, words, names, end + 1, 2, 0)
+}
+
+// So many as there are, or as there is room for.
+fn fewer(total: u64, room: usize) -> usize
+    ensures { λ r. ⌜ r ≡ min total room ⌝ }
+{
+    let all = total as usize;
+    if all < room {
+        return all;
+    }
+    room
+}
+
+// Reads a sheet into the lent store: the answer, how many findings go into a list of so many places, and the trail at the first.
+pub fn open(sheet: &[u8], words: &mut [u64], room: usize) -> Opening
+    ensures { λ r. ⌜ Opens (now (sheet .entry)) (now (words .entry)) (now (words .exit)) room r ⌝ }
+{
+    let w = sheet::reads::whole(sheet, words);
+    let answer = w.answer;
+    let names = w.table;
+    match answer {
+        Reading::Accepted(_, _, total) => {
+            let write = fewer(total, room);
+            let trail = first(sheet, words, names);
+            Opening {
+                answer,
+                write,
+                trail,
+            }
+        }
+        Reading::Refused(_, _) => {
+            let trail = ended(names, 0, 0, 0);
+            Opening {
+                answer,
+                write: 0,
+                trail,
+            }
+        }
+    }
 }

@@ -21,13 +21,16 @@ use Rattle.rule.specs.laws.Search.{coming-first}
 use Rattle.text.specs.Split.{endOf}
 use Rattle.sheet.specs.declared.RuleLine.{RuleLine}
 use Rattle.sheet.specs.declared.Table.{Table}
-use Rattle.sheet.specs.Pass.{Next, NextRule, Passing, Paused, foundRule}
+use Rattle.sheet.specs.Names.{countsOf}
+use Rattle.sheet.specs.Pass.{Next, NextRule, Passing, Paused, countedIn, foundRule}
 use Rattle.sheet.specs.Promise.{FindingsFrom}
 use Rattle.sheet.specs.Promise.FindingsFrom.{none, more}
 use Rattle.sheet.specs.Said.{Said, SheetRule}
+use Rattle.sheet.specs.Table.{Roomy}
 use Rattle.sheet.specs.laws.Pass.{passing-rest, passing-start}
+use Rattle.sheet.specs.laws.Stands.{Places, counts-of}
 use Rattle.listing.specs.declared.Trail.{Trail}
-use Rattle.listing.specs.Trail.{Beyond, Ended, First, Going, Onward, Sought, Steps, Went, countedIn, searchOf, trailAt}
+use Rattle.listing.specs.Trail.{Beyond, Ended, First, Going, Onward, Sought, Steps, Went, searchOf, trailAt}
 
 -- ---- the findings of rules
 
@@ -222,8 +225,16 @@ went-first {ms = ms} w k h = let p = went-passed w k h in ap (take (length ms)) 
 
 -- ---- the first of all findings
 
-pub first-sought : {sheet s : List ℕ} {names : Table} {c : Trail} (e : ℕ) → e ≡ endOf 10 sheet 0 → Sought sheet s names (e + 1) 2 0 c → First sheet s names c
-first-sought {sheet} {s} {names} e ends z = record {
+pub first-sought : {sheet s : List ℕ} {names : Table} {c : Trail} (e : ℕ) → e ≡ endOf 10 sheet 0 → Places names → Roomy names → Sought sheet s names (e + 1) 2 0 c → First sheet s names c
+first-sought {sheet} {s} {names} e ends p h z = record {
   going = z .going;
-  onward = λ x fs o n a. z .onward fs (record { said = x; done = []; passing = passing-start sheet names x e ends o n; number = refl; findings = a });
+  onward = λ x fs o n a.
+      let counts : countsOf (x .names) ≡ names .counts = ap countsOf n ∙ counts-of sheet names p h in
+      z .onward fs (record {
+        said = x;
+        done = [];
+        passing = passing-start sheet names x e ends o n;
+        number = refl;
+        findings = subst (λ (m : Counts). FindingsFrom (Holds width m s) m 0 (x .rules) fs) counts a;
+      });
 }

@@ -1,8 +1,11 @@
 -- `listing::trails::first` meets its contract. Assumes nothing.
+use mathlib.Core.Path.{_≡_}
 use mathlib.Core.List.{[]}
 use Prim.Native.Nat.{zero-le}
+use lib.ListN.{length}
 use Rattle.text.specs.laws.Split.{end-le}
 use Rattle.sheet.specs.laws.Pass.{accepted-start, passing-start}
+use Rattle.sheet.specs.laws.Stands.{Places}
 use Rattle.listing.specs.laws.Trail.{first-sought}
 use borrow.Author.Needs.{needs}
 use native.Mathlib.Omega.{arith}
@@ -19,7 +22,11 @@ seek-requires : tie.Need-seek-requires
 seek-requires c κs = ((c .before .before .before .pre .0), record { all = (c .before .before .before .pre .1 .said); before = []; passing = passing-start _ _ _ _ (c .end-of .ensures) (c .before .before .before .pre .1 .ends) (c .before .before .before .pre .1 .names) }, zero-le)
 
 returns : tie.Need-returns
-returns c = first-sought _ (c .before .end-of .ensures) (c .seek .ensures)
+returns c =
+    let g = (c .before .before .before .before .good .1 .1 .0) in
+    let i : length ((c .before .before .before .before .args .names) .items) ≡ 128 = search needs in
+    let p : Places (c .before .before .before .before .args .names) = record { concepts = search needs; roles = search needs; items = i } in
+    first-sought _ (c .before .end-of .ensures) p (c .before .before .before .before .pre .0 .fits) (c .seek .ensures)
 
 pub first-spec : {M : Type 1} → statement M
 first-spec = tie.close (tie.spec end-of-requires add-seek seek-requires returns)
