@@ -3,3 +3,4 @@ pub mod Written
 pub mod Lists
 pub mod Trail
 pub mod Opens
+pub mod Reads

@@ -7,6 +7,7 @@ ghost use Rattle.rule.specs.Search.{Met, Ready};
 ghost use Rattle.closure.specs.Layout.{width};
 ghost use Rattle.rule.specs.Promise.{Lists};
 ghost use Rattle.listing.specs.Listing.{Written};
+ghost use Rattle.listing.specs.Promise.{ReadsInto};
 ghost use Rattle.listing.specs.Trail.{Going, Went};
 use closure::Counts;
 use closure::Layout;
@@ -87,4 +88,15 @@ fn write_all(list: &mut [Finding], n: usize, sheet: &[u8], words: &[u64], first:
         c = trails::step(sheet, words, c);
         i += 1;
     }
+}
+
+// Reads a sheet into the lent store, and the findings of its rules into the lent list, as far as it reaches.
+pub fn read(sheet: &[u8], words: &mut [u64], list: &mut [Finding]) -> Reading
+    ensures { λ r. ⌜ ReadsInto (now (sheet .entry)) (now (words .entry)) (now (words .exit)) (now (list .entry)) (now (list .exit)) r ⌝ }
+{
+    let p = trails::open(sheet, words, list.len());
+    let n = p.write;
+    let c = p.trail;
+    write_all(list, n, sheet, words, c);
+    p.answer
 }

@@ -28,7 +28,7 @@ abbrev totalIn : Reading → ℕ
 totalIn (Accepted n m k) = k
 totalIn (Refused n k) = 0
 
-abbrev isRefused : Reading → ℕ
+abbrev pub isRefused : Reading → ℕ
 isRefused (Accepted n m k) = 0
 isRefused (Refused n k) = 1
 
