@@ -82,11 +82,11 @@ fn write_all(list: &mut [Finding], n: usize, sheet: &[u8], words: &[u64], first:
     ensures { λ _. ⌜ Written (Went (now (sheet .entry)) (now (words .entry)) first) n (now (list .entry)) (now (list .exit)) ⌝ }
 {
     let mut c = first;
-    let mut i = 0;
-    while i < n {
-        list[i] = c.finding;
+    let mut done = 0;
+    while done < n {
+        list[done] = c.finding;
         c = trails::step(sheet, words, c);
-        i += 1;
+        done += 1;
     }
 }
 

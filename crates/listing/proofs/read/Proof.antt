@@ -165,7 +165,7 @@ module _ {M : Type 1} (𝓤 : URA M) (H : Heap 𝓤) (A : Atoms 𝓤) (W : Given
   abbrev OwnH : Fml
   OwnH = ShrSlice (named 0) κ u8 .own h (hv ∷ [])
 
-  -- what the store owns, lent for λ under the name δ
+  -- what the store owns, lent for ν under the name δ
   abbrev OwnW : Lft → GName → Fml
   OwnW ν δ = MutSlice (named 1) ν u64 .own (sref δ ws) (sv ws ∷ [])
 
@@ -177,10 +177,11 @@ module _ {M : Type 1} (𝓤 : URA M) (H : Heap 𝓤) (A : Atoms 𝓤) (W : Given
   abbrev OwnL : Fml
   OwnL = MutSlice (named 2) κ″ T.the-row .own ref (lv ∷ [])
 
-  -- the tokens, as `open` has them and as `write_all` has them
+  -- the tokens, as `open` has them
   abbrev OpenTokens : ℕ → Item 𝓤
   OpenTokens ν = ‵ (flft κ q) ⊛ ‵ (flft (ν ∷ []) fullShare) ⊛ ‵ ftrue
 
+  -- the tokens, as `write_all` has them
   abbrev WriteTokens : Item 𝓤
   WriteTokens = ‵ (flft κ″ q″) ⊛ ‵ (flft κ q) ⊛ ‵ (flft κ′ q′) ⊛ ‵ ftrue
 

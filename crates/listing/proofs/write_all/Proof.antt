@@ -160,10 +160,11 @@ module _ {M : Type 1} (𝓤 : URA M) (H : Heap 𝓤) (A : Atoms 𝓤) (W : Given
   abbrev OwnS : Fml
   OwnS = ShrSlice (named 2) κ″ u64 .own s (sv ∷ [])
 
-  -- what both own, and the tokens of their lifetimes
+  -- what both own
   abbrev Both : Item 𝓤
   Both = ‵ OwnH ⊛ ‵ OwnS
 
+  -- the tokens of their lifetimes
   abbrev Tokens : Item 𝓤
   Tokens = ‵ (flft κ′ q′) ⊛ ‵ (flft κ″ q″)
 

@@ -28,6 +28,7 @@ abbrev totalIn : Reading → ℕ
 totalIn (Accepted n m k) = k
 totalIn (Refused n k) = 0
 
+-- 1 for a refusal, 0 for an accepted sheet
 abbrev pub isRefused : Reading → ℕ
 isRefused (Accepted n m k) = 0
 isRefused (Refused n k) = 1
@@ -42,6 +43,7 @@ record AcceptedRead (sheet s t : List ℕ) (r : Reading) : Type 0 where
   findings : FindingsIn said t list
   answer : r ≡ Accepted (countsOf (said .names)) (length (said .rules)) (length list)
 
+-- an answer that is no refusal is of that form
 reads-accepted : {sheet s t : List ℕ} {r : Reading} → isRefused r ≡ 0 → Reads sheet s t r → AcceptedRead sheet s t r
 reads-accepted e (wrong-size z q) = absurd (omega (arith, e))
 reads-accepted e (refusedRead l o p) = absurd (omega (arith, e))
@@ -50,9 +52,11 @@ reads-accepted e (acceptedRead {x = x} {fs = fs} l o h a) = record { said = x; l
 module _ {sheet s t : List ℕ} {w : Whole} (z : Wholly sheet s t w) where
   -- the sheet is accepted
   module _ {n : Counts} {m k : ℕ} (e : w .answer ≡ Accepted n m k) where
+    -- how it was read
     read-so : AcceptedRead sheet s t (w .answer)
     read-so = reads-accepted (ap isRefused e) (z .reads)
 
+    -- its names are those of the table
     named : read-so .said .names ≡ namesOf sheet (w .table)
     named = z .names (read-so .said) (read-so .long) (read-so .ends)
 
@@ -60,9 +64,11 @@ module _ {sheet s t : List ℕ} {w : Whole} (z : Wholly sheet s t w) where
     pub opens-store : Places (w .table) → ClosedStore width (w .table .counts) t
     opens-store p = subst (λ (c : Counts). ClosedStore width c t) (ap countsOf named ∙ counts-of sheet (w .table) p (z .room)) (read-so .held .store)
 
+    -- the sheet is that of the table
     pub opens-accepts : Accepts sheet (w .table)
     opens-accepts = record { said = read-so .said; ends = read-so .ends; names = named }
 
+    -- the reading with a list begins at the first of all findings
     pub opens-accepted : {c : Trail} {i : ℕ} (room : ℕ) → i ≡ min k room → First sheet t (w .table) c → Opens sheet s t room (record { answer = Accepted n m k; write = i; trail = c })
     opens-accepted {c} {i} room h f =
         let total : k ≡ length (read-so .list) = ap totalIn (sym e ∙ read-so .answer) in

@@ -46,6 +46,7 @@ record Parted (C : Cell → Type 0) (n : Counts) (k : ℕ) (r : SheetRule) (rs :
   findings : Findings C n k (r .rule) here
   rest : FindingsFrom C n (suc k) rs later
 
+-- such findings are of that form
 from-more : {C : Cell → Type 0} {n : Counts} {k : ℕ} {r : SheetRule} {rs : List SheetRule} {fs : List Finding} → FindingsFrom C n k (r ∷ rs) fs → Parted C n k r rs fs
 from-more (more {fs = hs} {gs = gs} a b) = record { here = hs; later = gs; all = refl; findings = a; rest = b }
 
@@ -80,6 +81,7 @@ module _ (sheet s : List ℕ) (names : Table) (past line k : ℕ) (r : RuleLine)
       let d : drop k (b .said .rules) ≡ [] = ap (drop k) z ∙ drop-of-length-le (b .done) h in
       from-none (subst (λ (rs : List SheetRule). From k rs fs) d (b .findings))
 
+  -- there is one
   beyond-rule : {fs : List Finding} → r .found ≡ true → Beyond sheet s names past line k fs → RuleThen sheet s names k r fs
   beyond-rule {fs} e b = record {
     here = p .here;
@@ -128,9 +130,11 @@ module _ (sheet s : List ℕ) (names : Table) (past line k : ℕ) (r : RuleLine)
 
   -- its findings are those that were sought
   module _ {at : Layout} {p : Prepared} (e : r .found ≡ true) (l : at ≡ layoutOf width) (z : Starts s at (names .counts) k (r .rule) 0 p) where
+    -- the list that the search began with is that of the rule's findings
     started : {fs : List Finding} (t : RuleThen sheet s names k r fs) → z .list ≡ t .here
     started t = findings-unique (subst (λ (a : Layout). Findings (Holds (a .width) (names .counts) s) (names .counts) k (r .rule) (z .list)) l (z .findings)) (t .findings)
 
+    -- so many are counted
     counts : countedIn (p .answer) ≡ length (z .list)
     counts = ap countedIn (z .answer)
 
@@ -208,6 +212,7 @@ record Passed (sheet s : List ℕ) (d : Trail) (fs ms : List Finding) : Type 0 w
   all : fs ≡ ms ++ rest
   onward : Onward sheet s d rest
 
+-- so it is after any number of steps
 went-passed : {sheet s : List ℕ} {first d : Trail} {ms fs : List Finding} → Went sheet s first ms d → Onward sheet s first fs → length ms ≤ length fs → Passed sheet s d fs ms
 went-passed {fs = fs} Went.start k h = record { rest = fs; all = refl; onward = k }
 went-passed {sheet} {s} {fs = fs} (Went.more {fs = ms} {c = c} {d = d} w t) k h =
@@ -225,6 +230,7 @@ went-first {ms = ms} w k h = let p = went-passed w k h in ap (take (length ms)) 
 
 -- ---- the first of all findings
 
+-- the trail sought from the line after the header on is at the first of all
 pub first-sought : {sheet s : List ℕ} {names : Table} {c : Trail} (e : ℕ) → e ≡ endOf 10 sheet 0 → Places names → Roomy names → Sought sheet s names (e + 1) 2 0 c → First sheet s names c
 first-sought {sheet} {s} {names} e ends p h z = record {
   going = z .going;
