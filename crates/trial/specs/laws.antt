@@ -2,3 +2,4 @@
 pub mod Words
 pub mod Trial
 pub mod TrialCompile
+pub mod Reading

@@ -1,4 +1,6 @@
-// Rules by number as words, for tests only: no part of the product. tests/rule_trial.h says how a rule is written.
+// Rules by number as words, and sheets read into a lent store, for tests only: no part of the product. tests/rule_trial.h says how a rule is written.
+pub mod reading;
+
 ghost use Prim.Native.Nat.{_+_, _*_, _<_, _≤_};
 ghost use mathlib.Core.Path.{_≡_};
 ghost use lib.ListN.{length};
