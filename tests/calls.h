@@ -102,6 +102,15 @@ static inline void lend_list(struct lent *lent)
     fill(lent);
 }
 
+/* Lends bytes that are read. */
+static inline void lend_bytes(struct lent *lent)
+{
+    lend(lent, 1, read_number(), 0);
+    for (size_t i = 0; i < lent->length; i++)
+        set_due(lent, i, read_number());
+    fill(lent);
+}
+
 /* Whether the guard bytes are as they were. */
 static int guards_stand(const struct lent *lent)
 {

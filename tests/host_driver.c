@@ -29,15 +29,6 @@ struct run {
     struct place place;
 };
 
-/* Lends bytes that are read. */
-static void lend_bytes(struct lent *lent)
-{
-    lend(lent, 1, read_number(), 0);
-    for (size_t i = 0; i < lent->length; i++)
-        set_due(lent, i, read_number());
-    fill(lent);
-}
-
 /* The result that is due. */
 static int64_t result_due(const struct run *run)
 {

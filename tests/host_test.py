@@ -88,7 +88,7 @@ def selftest(seed):
     harness.BUILD.mkdir(parents=True, exist_ok=True)
     for name, result in (("host_driver.c", "driver"), ("reference_store.c", "store"), ("rule_reference.c", "rules")):
         harness.compile_file(name, f"host_selftest_{result}.o")
-    options = harness.planted("host_reference.c", "HOST_FAULT")
+    options = harness.planted("sheet_reference.h", "SHEET_FAULT") + harness.planted("host_reference.c", "HOST_FAULT")
     return harness.selftest("host", seed, harness.short_test(sys.modules[__name__], seed, SELFTEST_SHEETS), build, options,
                             RIGHT, SPOILED)
 
