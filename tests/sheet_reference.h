@@ -65,6 +65,7 @@ struct kept {
 struct sheet {
     struct table concepts, roles, items;
     int section;
+    size_t statements;
     uint64_t words[SALTREEVE_WORDS];
     struct kept rules[MOST_RULES];
     size_t rule_count;
@@ -552,6 +553,7 @@ static void add_statement(struct sheet *sheet, const struct line *line)
     uint64_t a = number_at(sheet, line, 1), b = number_at(sheet, line, 2);
     uint64_t *w = sheet->words;
     struct piece word = line->fields[0];
+    sheet->statements++;
     if (is(word, "in"))
         saltreeve_add_in(w, SALTREEVE_WORDS, i, c, r, a, b);
     else if (is(word, "rel"))
@@ -630,6 +632,7 @@ static void begin(struct sheet *sheet)
     sheet->roles = (struct table){"role", SALTREEVE_ROLES, 0, {{NULL, 0}}};
     sheet->items = (struct table){"item", SALTREEVE_ITEMS, 0, {{NULL, 0}}};
     sheet->section = 0;
+    sheet->statements = 0;
     sheet->rule_count = kept;
     memset(sheet->words, 0, sizeof sheet->words);
 }

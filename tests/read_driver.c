@@ -1,0 +1,344 @@
+/*
+ * Reads sheets into lent stores, and compares.
+ *
+ *   read_driver                  reads commands from standard input (see tests/read_test.py)
+ *   read_driver --time SHEET..   prints the mean time of reading the worst sheets, and
+ *                                those in the files given
+ *
+ * The commands are words and decimal numbers parted by blanks. A list of words is
+ * written as its length, then how many words are not 0, then an index and a value for
+ * each of these:
+ *
+ *   part NAME NUMBER     names the part of the test that comes next
+ *   sheet LENGTH BYTES   lends a sheet
+ *   answer LIST          says which words are due as the answer
+ *   after LIST           says which words are due in the store
+ *   untouched            says that the store is to stay as it is
+ *   call NUMBER LENGTH ROOM
+ *                        makes a call. The store has LENGTH words of garbage, of which
+ *                        there is other for each NUMBER; where NUMBER is 0, the store is
+ *                        as the call before left it. The answer has ROOM words: if that is
+ *                        too few, -99 is due, and the store is to stay as it is
+ *
+ * After every call the result, the sheet, all words of the store and of the answer's room
+ * are compared, also the bytes kept around those lent. The first difference is printed
+ * and ends the program with 1. A call that fails, or does not come back within some
+ * seconds, ends it by a signal; which call it was is printed.
+ */
+#define _POSIX_C_SOURCE 199309L
+
+#include "calls.h"
+#include "read_trial.h"
+#include "saltreeve.h"
+
+#include <time.h>
+
+enum { NO_ROOM = -99, AS_LEFT = 0 };
+
+/* What is lent, what is due, and where the test is. */
+struct run {
+    struct lent sheet, store, out;
+    struct lent answer, after;
+    int touched;  /* whether the words of `after` are due */
+    struct place place;
+};
+
+/* A word of a store before a call, other for each number. */
+static uint64_t garbage(uint64_t number, uint64_t at)
+{
+    uint64_t word = (number << 20 | at) * 0x9E3779B97F4A7C15;
+    word = (word ^ word >> 32) * 0xD6E8FEB86659FD93;
+    return word ^ word >> 32;
+}
+
+/* The result that is due. */
+static int64_t result_due(const struct run *run)
+{
+    return run->out.length < TRIAL_ANSWER_WORDS ? NO_ROOM : 0;
+}
+
+/* Says which words of a list are due, from its start. */
+static void set_all_due(struct lent *lent, const struct lent *due)
+{
+    if (lent->length < due->length)
+        stop("a list is too short for what is due");
+    memcpy(lent->due, due->due, due->length * due->width);
+}
+
+/* Lends a store of so many words of garbage. */
+static void lend_garbage(struct lent *store, uint64_t number, size_t length)
+{
+    lend(store, sizeof(uint64_t), length, 0);
+    for (size_t i = 0; i < length; i++)
+        set_due(store, i, garbage(number, i));
+    fill(store);
+}
+
+/* Lends all that a call asks for, and says what is due of it. */
+static void lend_call(struct run *run)
+{
+    uint64_t number = read_number(), length = read_number();
+    if (number != AS_LEFT)
+        lend_garbage(&run->store, number, length);
+    if (run->store.length != length)
+        stop("the store has another length");
+    lend(&run->out, sizeof(uint64_t), read_number(), GUARD);
+    if (result_due(run) == NO_ROOM)
+        return;
+    set_all_due(&run->out, &run->answer);
+    if (run->touched)
+        set_all_due(&run->store, &run->after);
+}
+
+/* Ends the program if the result or a word is not what it should be. */
+static void compare_call(const struct run *run, int64_t got)
+{
+    if (got == result_due(run) && as_due(&run->sheet) && as_due(&run->store) && as_due(&run->out))
+        return;
+    printf("%s", place_text);
+    printf("result: expected %" PRId64 ", got %" PRId64 "\n", result_due(run), got);
+    print_entries("sheet", &run->sheet);
+    print_entries("store", &run->store);
+    print_entries("answer", &run->out);
+    exit(1);
+}
+
+/* Makes a call. */
+static void do_call(struct run *run)
+{
+    lend_call(run);
+    next_call(&run->place, run->out.length);
+    alarm(CALL_SECONDS);
+    int64_t got = trial_read(run->sheet.entries, run->sheet.length, run->store.entries, run->store.length,
+                             run->out.entries, run->out.length);
+    alarm(0);
+    compare_call(run, got);
+}
+
+/* Carries out a command. */
+static void do_command(struct run *run, const char *word)
+{
+    if (strcmp(word, "sheet") == 0)
+        lend_bytes(&run->sheet);
+    else if (strcmp(word, "answer") == 0)
+        lend_list(&run->answer);
+    else if (strcmp(word, "after") == 0) {
+        lend_list(&run->after);
+        run->touched = 1;
+    } else if (strcmp(word, "untouched") == 0)
+        run->touched = 0;
+    else if (strcmp(word, "call") == 0)
+        do_call(run);
+    else
+        stop("unknown command");
+}
+
+/* Carries out all commands and says how many calls they were. */
+static void run_commands(void)
+{
+    static struct run run;
+    char word[NAME_BYTES];
+    watch_signals();
+    while (next_command(word, &run.place))
+        do_command(&run, word);
+    take_back(&run.sheet);
+    take_back(&run.store);
+    take_back(&run.out);
+    take_back(&run.answer);
+    take_back(&run.after);
+    say_done(&run.place);
+}
+
+/* --- Times --- */
+
+enum {
+    SHEET_BYTES = 32768, RULES = 64, LETTERS = 64, DEPTH = 30, MOST_CALLS = 200
+};
+
+static const double TIMED_SECONDS = 1;  /* after which a sheet is read no more */
+
+/* A sheet that is timed. */
+struct timed {
+    char bytes[SHEET_BYTES + 1];
+    size_t length;
+};
+
+/* Adds text to a sheet. */
+static void add(struct timed *sheet, const char *text)
+{
+    size_t length = strlen(text);
+    if (sheet->length + length > SHEET_BYTES)
+        stop("a timed sheet is too long");
+    memcpy(sheet->bytes + sheet->length, text, length);
+    sheet->length += length;
+}
+
+/* Adds a tab and the name of a number: one letter, or two where there are no more of one. */
+static void add_name(struct timed *sheet, size_t number)
+{
+    static const char NAMES[LETTERS + 1] = "ABCDEFGHIJKLMNOPQRSTUVWXYZabcdefghijklmnopqrstuvwxyz0123456789._";
+    char text[] = {'\t', NAMES[number % LETTERS], number < LETTERS ? 0 : '-', 0};
+    add(sheet, text);
+}
+
+/* Adds a line: a word and some names. */
+static void add_line(struct timed *sheet, const char *word, size_t count, const size_t *numbers)
+{
+    add(sheet, word);
+    for (size_t i = 0; i < count; i++)
+        add_name(sheet, numbers[i]);
+    add(sheet, "\n");
+}
+
+/* Adds the declarations of so many names. */
+static void declare(struct timed *sheet, const char *word, size_t count)
+{
+    for (size_t number = 0; number < count; number++)
+        add_line(sheet, word, 1, &number);
+}
+
+/* Begins a sheet that declares so many items, concepts and roles. */
+static void begin(struct timed *sheet, size_t items, size_t concepts, size_t roles)
+{
+    sheet->length = 0;
+    add(sheet, "sheet\t1\n");
+    declare(sheet, "concept", concepts);
+    declare(sheet, "role", roles);
+    declare(sheet, "item", items);
+}
+
+/* Begins a sheet with all names; all items are the same, and so many roles link all to all. */
+static void begin_merged(struct timed *sheet, size_t linking)
+{
+    begin(sheet, SALTREEVE_ITEMS, SALTREEVE_CONCEPTS, SALTREEVE_ROLES);
+    for (size_t b = 1; b < SALTREEVE_ITEMS; b++)
+        add_line(sheet, "same", 2, (size_t[]){0, b});
+    for (size_t role = 0; role < linking; role++)
+        add_line(sheet, "rel", 3, (size_t[]){role, 0, 0});
+}
+
+/* Nothing but the header and empty lines. */
+static void line_feeds(struct timed *sheet)
+{
+    begin(sheet, 0, 0, 0);
+    while (sheet->length < SHEET_BYTES)
+        add(sheet, "\n");
+}
+
+/* All items the same, all roles linked, 64 rules of 32 nodes: 30 nested at least 8 of top, under a concept. */
+static void deep_rules(struct timed *sheet)
+{
+    begin_merged(sheet, SALTREEVE_ROLES);
+    for (size_t rule = 0; rule < RULES; rule++) {
+        add(sheet, "rule\tsub");
+        for (size_t level = 0; level < DEPTH; level++) {
+            add(sheet, "\tatleast\t8");
+            add_name(sheet, level % SALTREEVE_ROLES);
+        }
+        add(sheet, "\ttop\tA\n");
+    }
+}
+
+/* All items the same, all roles but one linked, 64 chains of four roles under that one: every pair is found. */
+static void chains(struct timed *sheet)
+{
+    begin_merged(sheet, SALTREEVE_ROLES - 1);
+    for (size_t rule = 0; rule < RULES; rule++)
+        add_line(sheet, "rule\tchain", 5, (size_t[]){0, 1, 2, 3, SALTREEVE_ROLES - 1});
+}
+
+/* 3,000 links, no two of them equal. */
+static void links(struct timed *sheet)
+{
+    begin(sheet, LETTERS, 0, SALTREEVE_ROLES);
+    for (size_t n = 0; n < 3000; n++)
+        add_line(sheet, "rel", 3, (size_t[]){n % SALTREEVE_ROLES, n / LETTERS, n % LETTERS});
+}
+
+/* 496 unders: each concept under all later ones, the last ones first. */
+static void unders(struct timed *sheet)
+{
+    begin(sheet, SALTREEVE_ITEMS, SALTREEVE_CONCEPTS, SALTREEVE_ROLES);
+    for (size_t over = SALTREEVE_CONCEPTS - 1; over > 0; over--)
+        for (size_t under = 0; under < over; under++)
+            add_line(sheet, "under", 2, (size_t[]){under, over});
+}
+
+/* The sheets that are timed, and what reading each gives. */
+static const struct timing {
+    const char *name;
+    void (*build)(struct timed *);
+    uint64_t due[TRIAL_ANSWER_WORDS];
+} TIMINGS[] = {
+    {"header, then line feeds only", line_feeds, {1, 0, 0, 0, 0, 0}},
+    {"all same, all linked, 64 rules of 32 nodes", deep_rules, {1, 128, 32, 16, 64, 0}},
+    {"all same, 64 chains of 4, all pairs found", chains, {1, 128, 32, 16, 64, 1048576}},
+    {"3,000 links", links, {1, 64, 0, 16, 0, 0}},
+    {"496 unders", unders, {1, 128, 32, 16, 0, 0}},
+};
+
+/* Seconds since some fixed moment. */
+static double seconds(void)
+{
+    struct timespec now;
+    clock_gettime(CLOCK_MONOTONIC, &now);
+    return (double)now.tv_sec + (double)now.tv_nsec / 1e9;
+}
+
+/* Reads a sheet some times and prints how long that takes; `answer` is what it gives. */
+static void time_sheet(const char *name, const struct timed *sheet, uint64_t answer[TRIAL_ANSWER_WORDS])
+{
+    static uint64_t words[SALTREEVE_WORDS];
+    int calls = 0;
+    double start = seconds(), spent = 0;
+    for (; calls < MOST_CALLS && spent < TIMED_SECONDS; calls++) {
+        alarm(CALL_SECONDS);
+        trial_read((const uint8_t *)sheet->bytes, sheet->length, words, SALTREEVE_WORDS, answer, TRIAL_ANSWER_WORDS);
+        alarm(0);
+        spent = seconds() - start;
+    }
+    printf("%-44s %6zu bytes %10.2f milliseconds a sheet (%d calls)\n", name, sheet->length, spent * 1e3 / calls, calls);
+}
+
+/* Times the worst sheets; an answer that is not due ends the program. */
+static void time_worst(struct timed *sheet)
+{
+    for (size_t i = 0; i < sizeof TIMINGS / sizeof TIMINGS[0]; i++) {
+        uint64_t answer[TRIAL_ANSWER_WORDS];
+        TIMINGS[i].build(sheet);
+        time_sheet(TIMINGS[i].name, sheet, answer);
+        if (memcmp(answer, TIMINGS[i].due, sizeof answer) != 0)
+            stop("a timed sheet comes to something else");
+    }
+}
+
+/* Times the sheet in a file; one that is refused ends the program. */
+static void time_file(struct timed *sheet, const char *name)
+{
+    uint64_t answer[TRIAL_ANSWER_WORDS];
+    FILE *file = fopen(name, "rb");
+    if (file == NULL)
+        stop("a file cannot be read");
+    sheet->length = fread(sheet->bytes, 1, sizeof sheet->bytes, file);
+    fclose(file);
+    time_sheet(name, sheet, answer);
+    if (answer[0] != 1)
+        stop("the sheet in the file is refused");
+}
+
+/* Runs the commands or the timing. */
+int main(int argc, char **argv)
+{
+    static struct timed sheet;
+    if (argc >= 2 && strcmp(argv[1], "--time") == 0) {
+        time_worst(&sheet);
+        for (int i = 2; i < argc; i++)
+            time_file(&sheet, argv[i]);
+    } else if (argc == 1)
+        run_commands();
+    else {
+        fprintf(stderr, "usage: read_driver [--time SHEET..]\n");
+        return 2;
+    }
+    return 0;
+}

@@ -1,0 +1,162 @@
+"""Tests what reading a sheet gives and leaves in the lent store, against the oracle.
+
+    python3 tests/read_test.py DRIVER [--seed N|random] [--sheets N]
+    python3 tests/read_test.py --selftest
+
+DRIVER is tests/read_driver.c linked with the test library. The self-test needs a C
+compiler and no library: it tries the test itself on a stand-in, sound and faulty.
+"""
+
+import re
+import sys
+from collections import Counter, namedtuple
+
+sys.dont_write_bytecode = True  # keeps the folder of the tests free of build products
+
+import harness
+import host_test
+import oracle
+import oracle_sheets
+import sheet_cases
+import sheet_test
+from rule_cases import listed
+
+DEFAULT_SHEETS = 800
+SELFTEST_SHEETS = 60
+ROUNDS = 1
+
+ANSWER_WORDS = 6
+WRONG_LENGTHS = (oracle.WORDS - 1, oracle.WORDS + 1, 0)
+AS_LEFT = 0  # in place of the garbage's number: the store is as the call before left it
+
+# A call, kept so that a difference can be shown.
+Call = namedtuple("Call", "case outcome garbage length room")
+
+# Commands about a sheet that the sound stand-in passes, and some that are wrong about it, each in its own way.
+HEADER = "sheet 7 115 104 101 101 116 9 49 "
+ACCEPTED = "answer 6 1 0 1 "
+ZERO = "after 4528 0 "
+RIGHT = HEADER + ACCEPTED + ZERO + "call 1 4528 6 call 0 4528 7"
+SPOILED = (
+    HEADER + "answer 6 2 0 1 5 1 " + ZERO + "call 1 4528 6",     # another total
+    HEADER + ACCEPTED + "after 4528 1 4527 1 call 1 4528 6",     # another store
+    HEADER + ACCEPTED + "untouched call 1 4528 6",               # a store that is as it was
+    HEADER + ACCEPTED + ZERO + "call 1 4529 6",                  # a refusal for the store's length left out
+    "sheet 0 " + ACCEPTED + ZERO + "call 1 4528 6",              # a refusal left out
+    "sheet 0 answer 6 2 1 1 2 12 " + ZERO + "call 1 4528 6",     # another number of refusal
+    "sheet 0 answer 6 2 1 2 2 11 " + ZERO + "call 1 4528 6",     # another line
+    "sheet 0 answer 6 2 1 1 2 11 untouched call 1 4528 6",       # a refused sheet that leaves the store
+)
+
+
+# The six words that reading gives, as tests/read_trial.h has them.
+def answer_of(outcome):
+    if outcome.number is None:
+        return 1, *outcome.counts, outcome.rules, len(outcome.findings)
+    return 0, outcome.line, outcome.number, 0, 0, 0
+
+
+# What the store of a sheet is afterwards, in a word.
+def kept_as(outcome):
+    if outcome.words is None:
+        return "untouched"
+    return "written" if any(outcome.words) else "all zero"
+
+
+class Commands:
+    """Writes commands, and keeps each call so that a difference can be shown."""
+
+    # Nothing written yet; `write` takes the text.
+    def __init__(self, write):
+        self.write = write
+        self.calls = []
+        self.stores = Counter()
+
+    # Says what is due.
+    def due(self, outcome):
+        after = "untouched" if outcome.words is None else f"after {listed(outcome.words)}"
+        self.write(f"answer {listed(answer_of(outcome))}\n{after}\n")
+
+    # Makes a call.
+    def call(self, case, outcome, garbage, length, room):
+        self.write(f"call {garbage} {length} {room}\n")
+        self.calls.append(Call(case, outcome, garbage, length, room))
+
+    # Reads a sheet into stores of wrong lengths.
+    def read_wrong(self, number, case):
+        for length in WRONG_LENGTHS:
+            outcome = oracle_sheets.judge(case.sheet, length)
+            self.due(outcome)
+            self.call(case, outcome, 2 * number + 1, length, ANSWER_WORDS)
+
+    # Reads a sheet: into the store that the sheet before left, into stores of wrong lengths, into garbage without room
+    # for the answer, and into other garbage.
+    def read(self, number, case, outcome):
+        self.write(f"part {case.name.split('-')[0]} {number}\nsheet {host_test.listed(case.sheet)}\n")
+        self.due(outcome)
+        if number > 0:
+            self.call(case, outcome, AS_LEFT, oracle.WORDS, ANSWER_WORDS)
+        self.read_wrong(number, case)
+        self.due(outcome)
+        self.call(case, outcome, 2 * number + 1, oracle.WORDS, number % ANSWER_WORDS)
+        self.call(case, outcome, 2 * number + 2, oracle.WORDS, ANSWER_WORDS + number % 3)
+        self.stores[kept_as(outcome)] += 1
+
+
+# Writes all cases.
+def write_all(commands, seed, sheets):
+    judged = list(sheet_cases.judged_cases(seed, sheets, ROUNDS))
+    sheet_cases.covered(judged)
+    for number, (case, outcome) in enumerate(judged):
+        commands.read(number, case, outcome)
+
+
+# The lines that show a call, and what was expected of it.
+def call_lines(call):
+    before = "as the call before left it" if call.garbage == AS_LEFT else f"garbage {call.garbage}"
+    return [f"the case is {call.case.name}, the sheet:", sheet_test.shown(call.case.sheet),
+            f"the store: {call.length} words, {before}; due afterwards: {kept_as(call.outcome)}",
+            f"the answer due: {answer_of(call.outcome)}, in a room of {call.room} words"]
+
+
+# Prints where the driver stopped, what it said, and the call.
+def report_difference(commands, seed, code, lines):
+    print(f"reading: seed {seed}: the driver ended with {code}; it said last:")
+    said = harness.last_said(lines)
+    place = re.search(r"which is call (\d+) of all", "".join(said[:1]))
+    for line in said + (call_lines(commands.calls[int(place.group(1)) - 1]) if place else []):
+        print(f"  {line}")
+
+
+# Builds the driver with the stand-in, one fault planted or none.
+def build(options):
+    harness.compile_file("read_reference.c", "read_selftest_read.o", options)
+    return harness.link([f"read_selftest_{part}.o" for part in ("driver", "store", "rules", "read")], "read_selftest")
+
+
+# Tries the sound stand-in and all faulty ones; 0 if the test judges each rightly.
+def selftest(seed):
+    harness.BUILD.mkdir(parents=True, exist_ok=True)
+    for name, result in (("read_driver.c", "driver"), ("reference_store.c", "store"), ("rule_reference.c", "rules")):
+        harness.compile_file(name, f"read_selftest_{result}.o")
+    options = harness.planted("sheet_reference.h", "SHEET_FAULT") + harness.planted("read_reference.c", "READ_FAULT")
+    return harness.selftest("reading", seed, harness.short_test(sys.modules[__name__], seed, SELFTEST_SHEETS), build,
+                            options, RIGHT, SPOILED)
+
+
+# Sends the whole test to the driver.
+def run(driver, seed, sheets):
+    return harness.run(driver, Commands, lambda commands: write_all(commands, seed, sheets))
+
+
+# Prints what was run.
+def report_agreement(commands, seed):
+    stores = ", ".join(f"{number} {name}" for name, number in sorted(commands.stores.items()))
+    print(f"reading: {sum(commands.stores.values())} sheets (stores afterwards: {stores}), {len(commands.calls)} calls, "
+          f"seed {seed}: all agree")
+
+
+if __name__ == "__main__":
+    chosen = harness.arguments("Tests reading sheets into a lent store.", "sheets", DEFAULT_SHEETS)
+    sys.exit(harness.main(chosen, selftest, run, lambda commands: len(commands.calls), report_agreement,
+                          report_difference))
