@@ -25,11 +25,9 @@
 #define _XOPEN_SOURCE 600
 
 #include "calls.h"
+#include "measure.h"
 #include "rule_trial.h"
 #include "saltreeve.h"
-
-#include <time.h>
-#include <ucontext.h>
 
 enum { MOST_QUERY_WORDS = 4 * 512 };
 
@@ -120,10 +118,7 @@ static void run_commands(void)
 
 /* --- Measuring: the deepest rules, over 128 items, 32 concepts and 16 roles. --- */
 
-enum {
-    STACK_BYTES = 1 << 22,
-    TIMED_CALLS = 2000
-};
+enum { TIMED_CALLS = 2000 };
 
 /* The kinds of rules and of nodes that are measured. */
 enum { SUB = 0, IN = 6 };
@@ -199,43 +194,15 @@ static void require_due(const struct measured *measured)
     exit(1);
 }
 
-/* How much of a painted stack is used by compiling the rule that is measured. */
-static size_t stack_used(void)
-{
-    static unsigned char stack[STACK_BYTES];
-    static ucontext_t here, there;
-    size_t untouched = 0;
-    memset(stack, GUARD_BYTE, sizeof stack);
-    if (getcontext(&there) != 0)
-        stop("no context");
-    there.uc_stack.ss_sp = stack;
-    there.uc_stack.ss_size = sizeof stack;
-    there.uc_link = &here;
-    makecontext(&there, compile_measured, 0);
-    if (swapcontext(&here, &there) != 0)
-        stop("no context");
-    while (untouched < sizeof stack && stack[untouched] == GUARD_BYTE)
-        untouched++;
-    return sizeof stack - untouched;
-}
-
 /* Prints how much stack each rule takes. */
 static void run_stacks(void)
 {
     for (size_t i = 0; i < sizeof MEASURED / sizeof MEASURED[0]; i++) {
         build(&MEASURED[i]);
-        size_t used = stack_used();
+        size_t used = stack_used(compile_measured);
         require_due(&MEASURED[i]);
         printf("%-38s %8zu bytes of stack\n", MEASURED[i].name, used);
     }
-}
-
-/* Seconds since some fixed moment. */
-static double seconds(void)
-{
-    struct timespec now;
-    clock_gettime(CLOCK_MONOTONIC, &now);
-    return (double)now.tv_sec + (double)now.tv_nsec / 1e9;
 }
 
 /* Prints how long each rule takes. */
