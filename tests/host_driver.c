@@ -1,8 +1,12 @@
 /*
  * Calls the sheet check as the order-entry host does, and compares.
  *
- * It reads commands from standard input (see tests/host_test.py): words and
- * decimal numbers parted by blanks.
+ *   host_driver           reads commands from standard input (see tests/host_test.py)
+ *   host_driver --stack   prints how much stack a call takes, for some sheets
+ *   host_driver --time    prints the processor time of a call, for the same sheets
+ *
+ * The last two read sheets of examples/, so they are run from the folder above it. The
+ * commands are words and decimal numbers parted by blanks.
  *
  *   part NAME NUMBER     names the part of the test that comes next
  *   sheet LENGTH BYTES   lends a sheet
@@ -16,10 +20,13 @@
  * with 1. A call that fails, or does not come back within some seconds, ends it by a
  * signal; which call it was is printed.
  */
-#define _POSIX_C_SOURCE 199309L
+#define _XOPEN_SOURCE 600
 
 #include "calls.h"
+#include "measure.h"
 #include "saltreeve.h"
+
+#include <stdarg.h>
 
 enum { TEXT_TOO_LONG = -8 };
 
@@ -90,9 +97,292 @@ static void run_commands(void)
     say_done(&run.place);
 }
 
-/* Runs the commands. */
-int main(void)
+/* --- Measuring: sheets at the limits, and the rules that go deepest. --- */
+
+enum { SHEET_BYTES = 32768 };
+
+/* How long each sheet is checked over and over, in seconds of processor time. */
+static const double TIMED_SECONDS = 0.5;
+
+/* The names of roles, and of the items of a sheet that has many lines. */
+static const char LETTERS[] = "ABCDEFGHIJKLMNOPQRSTUVWXYZabcdefghijklmnopqrstuvwxyz0123456789._/-";
+
+/* The sheet that is measured, where its text is written, and what came out. */
+static char measured_sheet[SHEET_BYTES + 1];
+static size_t measured_length;
+static uint8_t measured_room[SALTREEVE_TEXT];
+static int64_t measured_result;
+
+/* Adds to the sheet, in the manner of printf. */
+static void add(const char *format, ...)
 {
-    run_commands();
+    size_t left = sizeof measured_sheet - measured_length;
+    va_list given;
+    va_start(given, format);
+    int added = vsnprintf(measured_sheet + measured_length, left, format, given);
+    va_end(given);
+    if (added < 0 || (size_t)added >= left)
+        stop("a sheet is too long");
+    measured_length += (size_t)added;
+}
+
+/* Adds the bytes of a file. */
+static void add_file(const char *path)
+{
+    FILE *file = fopen(path, "rb");
+    if (file == NULL)
+        stop("a sheet of examples/ cannot be opened");
+    measured_length += fread(measured_sheet + measured_length, 1, sizeof measured_sheet - measured_length, file);
+    fclose(file);
+}
+
+/* Adds so many lines, with the numbers from 0 on and the one that follows each, around to 0. */
+static void add_numbered(int count, const char *format)
+{
+    for (int i = 0; i < count; i++)
+        add(format, i, (i + 1) % count);
+}
+
+/* The same with letters. */
+static void add_lettered(int count, const char *format)
+{
+    for (int i = 0; i < count; i++)
+        add(format, LETTERS[i], LETTERS[(i + 1) % count]);
+}
+
+/* Adds the header and all names that a sheet can have. */
+static void add_names(void)
+{
+    add("sheet\t1\n");
+    add_numbered(SALTREEVE_CONCEPTS, "concept\tC%d\n");
+    add_lettered(SALTREEVE_ROLES, "role\t%c\n");
+    add_numbered(SALTREEVE_ITEMS, "item\ti%d\n");
+}
+
+/* Puts every role under every other one and its inverse. */
+static void join_roles(void)
+{
+    add_lettered(SALTREEVE_ROLES, "runder\t%c\t%c\n");
+    add("runder\tA\t~A\n");
+}
+
+/* The first example. */
+static void worked(void)
+{
+    add_file("examples/blades.sheet");
+}
+
+/* The catalogue. */
+static void catalogue(void)
+{
+    add_file("examples/catalogue.sheet");
+}
+
+/* The header and empty lines, as many as a sheet holds. */
+static void empty_lines(void)
+{
+    add("sheet\t1\n");
+    while (measured_length < SHEET_BYTES)
+        add("\n");
+}
+
+/* All items are one article, and every role links it to itself. */
+static void one_article(void)
+{
+    add_names();
+    add_lettered(SALTREEVE_ROLES, "rel\t%c\ti0\ti1\n");
+    add_numbered(SALTREEVE_ITEMS, "same\ti%d\ti%d\n");
+}
+
+/* 3,000 links between 66 items. */
+static void links(void)
+{
+    int count = sizeof LETTERS - 1;
+    add("sheet\t1\n");
+    add_lettered(SALTREEVE_ROLES, "role\t%c\n");
+    add_lettered(count, "item\t%c\n");
+    join_roles();
+    for (int i = 0; i < 3000; i++)
+        add("rel\t%c\t%c\t%c\n", LETTERS[i % SALTREEVE_ROLES], LETTERS[i % count], LETTERS[(i + i / count) % count]);
+}
+
+/* Families under families, 500 times, with an item in each. */
+static void unders(void)
+{
+    add_names();
+    add_numbered(SALTREEVE_CONCEPTS, "in\ti%d\tC%d\n");
+    for (int i = 0; i < 500; i++)
+        add("under\tC%d\tC%d\n", i % SALTREEVE_CONCEPTS, (i + 1 + i / SALTREEVE_CONCEPTS) % SALTREEVE_CONCEPTS);
+}
+
+/* Items linked in rings, all different. */
+static void rings(void)
+{
+    add_names();
+    add("runder\tA\t~B\n");
+    add_numbered(SALTREEVE_CONCEPTS, "in\ti%d\tC0\n");
+    add_numbered(SALTREEVE_ITEMS, "rel\tA\ti%d\ti%d\n");
+    add_numbered(SALTREEVE_ITEMS, "rel\tC\ti%d\ti%d\n");
+    add_numbered(SALTREEVE_ITEMS, "rel\tD\ti0\ti%d\n");
+}
+
+/* One article with names of 24 bytes, and rules on lines of five digits. */
+static void long_names(void)
+{
+    add("sheet\t1\nrole\tA\n");
+    add_numbered(SALTREEVE_ITEMS, "item\t%024d\n");
+    add_numbered(SALTREEVE_ITEMS, "same\t%024d\t%024d\n");
+    add("rel\tA\t%024d\t%024d\n", 0, 0);
+    add_numbered(10000, "\n");
+}
+
+/* One article, all roles joined, and 2,200 lines that join them again. */
+static void role_steps(void)
+{
+    one_article();
+    join_roles();
+    for (int i = 0; i < 2200; i++)
+        add("runder\t%c\t~%c\n", LETTERS[i % SALTREEVE_ROLES], LETTERS[i / SALTREEVE_ROLES % SALTREEVE_ROLES]);
+}
+
+/* A text again and again. */
+#define TIMES_5(text) text text text text text
+#define TIMES_15(text) TIMES_5(text) TIMES_5(text) TIMES_5(text)
+#define TIMES_30(text) TIMES_15(text) TIMES_15(text)
+#define TIMES_31(text) TIMES_30(text) text
+
+/* Sixteen rules; those with expressions have 32 nodes. */
+static const char ALL_KINDS[] =
+    "rule\tsub\ttop" TIMES_30("\tsome\tA") "\ttop\n"
+    "rule\tsub\ttop" TIMES_30("\tsome\t~B") "\ttop\n"
+    "rule\tsub\ttop" TIMES_15("\tnot\tatleast\t8\t~D") "\tC0\n"
+    "rule\tsub\ttop" TIMES_15("\tatmost\t7\tC") "\ttop\n"
+    "rule\tsub\ttop" TIMES_5("\tall\tA\tall\t~C") "\tC0\n"
+    "rule\tsub" TIMES_30("\tnot") "\tC0\ttop\n"
+    "rule\tsub" TIMES_15("\tand") TIMES_15("\tC0") "\ttop\ttop\n"
+    "rule\tsub\ttop" TIMES_15("\tand\tself\tA") "\tone\ti5\n"
+    "rule\tsub\ttop" TIMES_5("\tor\tC0") "\tor\tC1\tC2\n"
+    "rule\tin" TIMES_31("\tsome\tC") "\ttop\ti0\n"
+    "rule\tchain\t~A\t~B\t~C\t~D\tE\n"
+    "rule\trsub\tA\t~C\n"
+    "rule\tdis\tA\tC\n"
+    "rule\tref\tD\n"
+    "rule\tnorel\t~A\ti1\ti0\n"
+    "rule\tdiffer\ti0\ti1\n";
+
+/* A sheet to be measured: how it begins, a text that follows so many times, and the length of what is printed. */
+struct measured {
+    const char *name;
+    void (*begin)(void);
+    const char *rules;
+    int times;
+    int64_t due;
+};
+
+static const struct measured SHEETS[] = {
+    {"the worked sheet", worked, "", 0, 25},
+    {"the catalogue", catalogue, "", 0, 339},
+    {"32,760 empty lines", empty_lines, "", 0, 8},
+    {"one article, 64 rules of 32 nodes", one_article, "rule\tsub\ttop" TIMES_30("\tsome\t~A") "\ttop\n", 64, 8},
+    {"3,000 links, two rules", links, "rule\tirr\tA\nrule\tchain\tA\tB\tC\n", 1, 999},
+    {"500 unders, a rule", unders, "rule\tsub\ttop\tC0\n", 1, 1573},
+    {"64 rules of sixteen kinds", rings, ALL_KINDS, 4, 3233},
+    {"the longest text", long_names, "rule\tdis\tA\t~A\n", 64, SALTREEVE_TEXT},
+    {"2,200 runders, 64 chains of inverses", role_steps, "rule\tchain\t~A\t~B\t~C\t~D\tE\n", 64, 8},
+};
+
+static const struct measured DEEPEST[] = {
+    {"31 nested nots", one_article, "rule\tin" TIMES_31("\tnot") "\ttop\ti0\n", 1, 23},
+    {"31 nested nots of one item", one_article, "rule\tin" TIMES_31("\tnot") "\tone\ti0\ti0\n", 1, 23},
+    {"31 nested some", one_article, "rule\tin" TIMES_31("\tsome\tA") "\ttop\ti0\n", 1, 8},
+    {"31 nested some of an inverse", one_article, "rule\tin" TIMES_31("\tsome\t~A") "\ttop\ti0\n", 1, 8},
+    {"31 nested at least 8", one_article, "rule\tin" TIMES_31("\tatleast\t8\tA") "\ttop\ti0\n", 1, 23},
+    {"15 nested at most 7", one_article, "rule\tin" TIMES_15("\tatmost\t7\tA") "\ttop\ti0\n", 1, 8},
+    {"10 nested all", one_article, "rule\tin" TIMES_5("\tall\tA\tall\t~B") "\ttop\ti0\n", 1, 8},
+    {"15 ands, each left in the one before", one_article,
+     "rule\tin" TIMES_15("\tand") TIMES_15("\ttop") "\ttop\ti0\n", 1, 8},
+    {"15 ands, each right in the one before", one_article, "rule\tin" TIMES_15("\tand\ttop") "\ttop\ti0\n", 1, 8},
+    {"6 nested ors", one_article, "rule\tin" TIMES_5("\tor\ttop") "\tor\ttop\ttop\ti0\n", 1, 8},
+    {"sub, 30 nested some and a name", one_article, "rule\tsub" TIMES_30("\tsome\tA") "\ttop\tC0\n", 1, 2076},
+    {"sub, a name and 30 nested some", one_article, "rule\tsub\tC0" TIMES_30("\tsome\tA") "\ttop\n", 1, 8},
+    {"120 nested nots, refused", one_article,
+     "rule\tin" TIMES_30("\tnot") TIMES_30("\tnot") TIMES_30("\tnot") TIMES_30("\tnot") "\ttop\ti0\n", 1, 15},
+};
+
+/* How many there are. */
+#define COUNT(table) (sizeof(table) / sizeof(table)[0])
+
+/* Writes the sheet that is to be measured. */
+static void build(const struct measured *measured)
+{
+    measured_length = 0;
+    measured->begin();
+    for (int i = 0; i < measured->times; i++)
+        add("%s", measured->rules);
+}
+
+/* Checks the sheet that is measured. */
+static void check_measured(void)
+{
+    measured_result = saltreeve_check((const uint8_t *)measured_sheet, measured_length, measured_room, SALTREEVE_TEXT);
+}
+
+/* Ends the program if what came out is not what was due. */
+static void require_due(const struct measured *measured)
+{
+    if (measured_result == measured->due)
+        return;
+    printf("%s: expected %" PRId64 ", got %" PRId64 "\n", measured->name, measured->due, measured_result);
+    exit(1);
+}
+
+/* Prints how much stack each sheet takes. */
+static void print_stacks(const struct measured *sheets, size_t count)
+{
+    for (size_t i = 0; i < count; i++) {
+        build(&sheets[i]);
+        size_t used = stack_used(check_measured);
+        require_due(&sheets[i]);
+        printf("%-40s %8zu bytes of stack\n", sheets[i].name, used);
+    }
+}
+
+/* The mean time of a call for the sheet that is measured. */
+static double mean_time(void)
+{
+    double start = seconds(), spent = 0;
+    int calls = 0;
+    for (; spent < TIMED_SECONDS; calls++) {
+        check_measured();
+        spent = seconds() - start;
+    }
+    return spent / calls;
+}
+
+/* Prints how long each sheet takes. */
+static void print_times(const struct measured *sheets, size_t count)
+{
+    for (size_t i = 0; i < count; i++) {
+        build(&sheets[i]);
+        double time = mean_time();
+        require_due(&sheets[i]);
+        printf("%-40s %8zu bytes %12.3f milliseconds a call\n", sheets[i].name, measured_length, time * 1e3);
+    }
+}
+
+/* Runs the commands or a measurement. */
+int main(int argc, char **argv)
+{
+    if (argc == 2 && strcmp(argv[1], "--stack") == 0) {
+        print_stacks(SHEETS, COUNT(SHEETS));
+        print_stacks(DEEPEST, COUNT(DEEPEST));
+    } else if (argc == 2 && strcmp(argv[1], "--time") == 0)
+        print_times(SHEETS, COUNT(SHEETS));
+    else if (argc == 1)
+        run_commands();
+    else {
+        fprintf(stderr, "usage: host_driver [--stack | --time]\n");
+        return 2;
+    }
     return 0;
 }
