@@ -2,11 +2,13 @@ ghost use mathlib.Core.Path.{_≡_};
 ghost use Prim.Native.Nat.{_+_, _*_, _≤_, _<_};
 ghost use Rattle.logic.specs.Decides.{Decides};
 ghost use Rattle.row.specs.Pick.{Among};
-ghost use Rattle.closure.specs.Cell.Cell.{Same, In, Link};
+ghost use Rattle.closure.specs.Cell.{cellOf};
+ghost use Rattle.closure.specs.Cell.Cell.{Same, Under, RoleUnder, In, Link};
 ghost use Rattle.closure.specs.Layout.{ClosedStore, Holds, Laid, itemLimit, linkAt, roleLimit, widest};
 ghost use Rattle.closure.specs.Look.{LinksJoined};
 use crate::Counts;
 use crate::Layout;
+use crate::Statement;
 
 // Whether the item a is in the concept c. A number that is not declared is in none.
 pub fn in_concept(words: &[u64], at: Layout, counts: Counts, a: usize, c: usize) -> bool
@@ -36,6 +38,54 @@ pub fn same(words: &[u64], at: Layout, counts: Counts, a: usize, b: usize) -> bo
     }
     let width = at.width;
     row::bit::has_bit(words[a * width + b / 64], (b % 64) as u64)
+}
+
+// Whether the concept a is under the concept b.
+fn under(words: &[u64], at: Layout, counts: Counts, a: usize, b: usize) -> bool
+    requires { ⌜ Laid at (now words) × ClosedStore (at .width) counts (now words) ⌝ }
+    ensures { λ r. ⌜ Decides r (Holds (at .width) counts (now (words .entry)) (Under a b)) ⌝ }
+{
+    if counts.concepts <= a {
+        return false;
+    }
+    if counts.concepts <= b {
+        return false;
+    }
+    let under = at.under;
+    row::bit::has_bit(words[under + a], b as u64)
+}
+
+// Whether the role r is under the role t, or under its inverse if u.
+fn role_under(words: &[u64], at: Layout, counts: Counts, r: usize, u: bool, t: usize) -> bool
+    requires { ⌜ Laid at (now words) × ClosedStore (at .width) counts (now words) ⌝ }
+    ensures { λ d. ⌜ Decides d (Holds (at .width) counts (now (words .entry)) (RoleUnder r u t)) ⌝ }
+{
+    if counts.roles <= r {
+        return false;
+    }
+    if counts.roles <= t {
+        return false;
+    }
+    let role = at.role;
+    let w = words[role + r];
+    if u {
+        return row::bit::has_bit(w, (16 + t) as u64);
+    }
+    row::bit::has_bit(w, t as u64)
+}
+
+// Whether the store says already what the statement does.
+pub fn told(words: &[u64], at: Layout, counts: Counts, s: Statement) -> bool
+    requires { ⌜ Laid at (now words) × ClosedStore (at .width) counts (now words) ⌝ }
+    ensures { λ r. ⌜ Decides r (Holds (at .width) counts (now (words .entry)) (cellOf s)) ⌝ }
+{
+    match s {
+        Statement::Same(a, b) => same(words, at, counts, a.0, b.0),
+        Statement::Under(a, b) => under(words, at, counts, a.0, b.0),
+        Statement::RoleUnder(r, u, t) => role_under(words, at, counts, r.0, u, t.0),
+        Statement::In(a, b) => in_concept(words, at, counts, a.0, b.0),
+        Statement::Link(r, a, b) => link(words, at, counts, r.0, a.0, b.0),
+    }
 }
 
 // The items that are the same article as b.
