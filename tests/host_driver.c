@@ -236,13 +236,13 @@ static void long_names(void)
     add_numbered(10000, "\n");
 }
 
-/* One article, all roles joined, and 2,200 lines that join them again. */
+/* One article, all roles joined, and 2,400 lines that join them again. */
 static void role_steps(void)
 {
     one_article();
     join_roles();
-    for (int i = 0; i < 2200; i++)
-        add("runder\t%c\t~%c\n", LETTERS[i % SALTREEVE_ROLES], LETTERS[i / SALTREEVE_ROLES % SALTREEVE_ROLES]);
+    for (int i = 0; i < 2400; i++)
+        add("runder\t%c\t%c\n", LETTERS[i % SALTREEVE_ROLES], LETTERS[i / SALTREEVE_ROLES % SALTREEVE_ROLES]);
 }
 
 /* A text again and again. */
@@ -288,7 +288,7 @@ static const struct measured SHEETS[] = {
     {"500 unders, a rule", unders, "rule\tsub\ttop\tC0\n", 1, 1573},
     {"64 rules of sixteen kinds", rings, ALL_KINDS, 4, 3233},
     {"the longest text", long_names, "rule\tdis\tA\t~A\n", 64, SALTREEVE_TEXT},
-    {"2,200 runders, 64 chains of inverses", role_steps, "rule\tchain\t~A\t~B\t~C\t~D\tE\n", 64, 8},
+    {"2,400 runders, 64 chains of inverses", role_steps, "rule\tchain\t~A\t~B\t~C\t~D\tE\n", 64, 8},
 };
 
 static const struct measured DEEPEST[] = {
