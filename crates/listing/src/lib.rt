@@ -1,5 +1,5 @@
 // The findings of a rule, and of all rules of a sheet, written into the caller's list.
-pub mod trails;
+mod trails;
 
 ghost use Prim.Native.Nat.{_<_, _≤_};
 ghost use lib.ListN.{length};
@@ -19,9 +19,8 @@ use rule::Total;
 use sheet::Reading;
 use sheet::Table;
 
-// A search for the findings of all rules of a sheet: the finding at hand, the parts of its rule's search, and how many findings that rule has left, the one at hand with them; then the
-// sheet's names, the place past the rule's line, the number of the line there, and the next rule's number.
-pub struct Trail {
+// A search for the findings of all rules of a sheet: the finding at hand, the search of its rule, how many that rule has left, and where the sheet is read on for the next rule.
+struct Trail {
     pub finding: Finding,
     pub x: usize,
     pub y: usize,
@@ -39,7 +38,7 @@ pub struct Trail {
 }
 
 // What reading a sheet with a list needs: its answer, how many findings to write, and the trail at the first.
-pub struct Opening {
+struct Opening {
     pub answer: Reading,
     pub write: usize,
     pub trail: Trail,

@@ -1,4 +1,4 @@
-// The findings of all rules of an accepted sheet, one after the other. What is public here is a part with a `requires`, not an entry point.
+// The findings of all rules of an accepted sheet, one after the other: parts of `read`, seen in this crate alone.
 ghost use mathlib.Core.Path.{_≡_};
 ghost use Prim.Native.Nat.{min, _≤_};
 ghost use Rattle.closure.specs.Layout.{ClosedStore, width};
@@ -68,7 +68,7 @@ fn trail_at(s: Search, more: u64, names: Table, past: usize, line: usize, number
 }
 
 // A trail with no finding left.
-pub fn ended(names: Table, past: usize, line: usize, number: usize) -> Trail
+fn ended(names: Table, past: usize, line: usize, number: usize) -> Trail
     ensures { λ r. ⌜ Ended names past line number r ⌝ }
 {
     let none = row::pick::empty();
@@ -135,7 +135,7 @@ pub fn step(sheet: &[u8], words: &[u64], c: Trail) -> Trail
 }
 
 // The trail at the first of all findings.
-pub fn first(sheet: &[u8], words: &[u64], names: Table) -> Trail
+fn first(sheet: &[u8], words: &[u64], names: Table) -> Trail
     requires { ⌜ ClosedStore width (names .counts) (now words) × Accepts (now sheet) names ⌝ }
     ensures { λ r. ⌜ First (now (sheet .entry)) (now (words .entry)) names r ⌝ }
 {

@@ -1,7 +1,7 @@
 -- From what reading a sheet gives to how a reading with a list begins. Assumes nothing.
 use mathlib.Core.Path.{_≡_, refl, sym, ap, _∙_, subst}
 use mathlib.Core.List.{List}
-use Prim.Native.Nat.{ℕ, min, _≤_, _<_}
+use Prim.Native.Nat.{ℕ, min}
 use native.Mathlib.Omega.{arith}
 use lib.ListN.{length}
 use Rattle.closure.specs.declared.Counts.{Counts}
@@ -18,9 +18,8 @@ use Rattle.sheet.specs.Said.{Said, outcome}
 use Rattle.sheet.specs.Said.Outcome.{accepted as acceptedSheet}
 use Rattle.sheet.specs.Table.{namesOf}
 use Rattle.sheet.specs.laws.Stands.{Places, counts-of}
-use Rattle.listing.specs.declared.Opening.{Opening}
 use Rattle.listing.specs.declared.Trail.{Trail}
-use Rattle.listing.specs.Trail.{Begins, First, Opens}
+use Rattle.listing.specs.Trail.{First, Opens}
 use Rattle.listing.specs.Trail.Begins.{refused, accepted}
 
 -- the findings that an answer counts

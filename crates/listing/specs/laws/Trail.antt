@@ -25,7 +25,7 @@ use Rattle.sheet.specs.Names.{countsOf}
 use Rattle.sheet.specs.Pass.{Next, NextRule, Passing, Paused, countedIn, foundRule}
 use Rattle.sheet.specs.Promise.{FindingsFrom}
 use Rattle.sheet.specs.Promise.FindingsFrom.{none, more}
-use Rattle.sheet.specs.Said.{Said, SheetRule}
+use Rattle.sheet.specs.Said.{SheetRule}
 use Rattle.sheet.specs.Table.{Roomy}
 use Rattle.sheet.specs.laws.Pass.{passing-rest, passing-start}
 use Rattle.sheet.specs.laws.Stands.{Places, counts-of}

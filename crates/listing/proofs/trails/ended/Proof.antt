@@ -1,7 +1,6 @@
 -- `listing::trails::ended` meets its contract. Assumes nothing.
 use mathlib.Core.Path.{refl}
 use borrow.Author.Needs.{needs}
-use native.Mathlib.Omega.{arith}
 use Rattle.listing.proofs.trails.ended.Statement.{statement}
 use Rattle.listing.proofs.trails.ended.Tie as tie
 

@@ -19,7 +19,7 @@ add-seek : tie.Need-add-seek
 add-seek c = omega (arith, (c .end-of .ensures), end-le 10 (c .before .before .before .args .sheet .now) 0 zero-le, accepted-start _ _ (c .before .before .before .pre .1 .ends) .0)
 
 seek-requires : tie.Need-seek-requires
-seek-requires c κs = ((c .before .before .before .pre .0), record { all = (c .before .before .before .pre .1 .said); before = []; passing = passing-start _ _ _ _ (c .end-of .ensures) (c .before .before .before .pre .1 .ends) (c .before .before .before .pre .1 .names) }, zero-le)
+seek-requires c κs = ((c .before .before .before .pre .0), record { all = (c .before .before .before .pre .1 .said); before = []; passing = passing-start _ _ _ _ (c .end-of .ensures) (c .before .before .before .pre .1 .ends) (c .before .before .before .pre .1 .names) }, omega arith)
 
 returns : tie.Need-returns
 returns c =

@@ -2,7 +2,6 @@
 use Rattle.sheet.specs.laws.Stands.{Places}
 use Rattle.listing.specs.laws.Opens.{opens-accepted, opens-accepts, opens-refused, opens-store}
 use borrow.Author.Needs.{needs}
-use native.Mathlib.Omega.{arith}
 use Rattle.listing.proofs.trails.open.Statement.{statement}
 use Rattle.listing.proofs.trails.open.Tie as tie
 
