@@ -1,11 +1,12 @@
 -- From the rules that are judged in turn to the page. Assumes nothing.
-use mathlib.Core.Path.{_≡_, ap, _∙_, subst}
+use mathlib.Core.Path.{_≡_, sym, ap, _∙_}
 use mathlib.Core.Bool.{true}
 use mathlib.Core.List.{List, [], _∷_, _++_}
 use Prim.Native.Nat.{ℕ, _+_, _≤_}
 use native.Mathlib.Omega.{arith}
 use borrow.Author.Tests.{eq-eqb, ne-eqb}
 use lib.ListN.{length}
+use lib.Seq.{sets}
 use Rattle.row.specs.Bit.{Words}
 use Rattle.text.specs.Text.{Wrote}
 use Rattle.sheet.specs.declared.Ended.{Ended}
@@ -18,6 +19,7 @@ use Rattle.sheet.specs.Promise.Prints.{refused}
 use Rattle.sheet.specs.Said.{Said, SheetRule, outcome}
 use Rattle.sheet.specs.Said.Outcome.{accepted as acceptedSheet}
 use Rattle.sheet.specs.Table.{namesOf}
+use Rattle.sheet.specs.laws.Unique.{prints-unique}
 use Rattle.sheet.specs.laws.Count.{Turn, opens-held, opens-judges, opens-outcome, turn-rules}
 use Rattle.report.specs.declared.Tally.{Tally}
 use Rattle.report.specs.Lines.{Filled, JudgedAll, Pages, Printed, Tallied}
@@ -43,3 +45,9 @@ module _ {sheet t : List ℕ} {e : Ended} (w : Filled sheet t e) where
         let o = opens-outcome (w .opens) z in
         let a = printed-all o u (opens-held (w .opens) z) (j .printed (w .opens .said) o (w .opens .names)) h in
         record { text = a .0; prints = a .1; wrote = a .2; short = omega (arith, j .near) }
+
+-- the page allows one result
+pub pages-unique : {sheet room exit other : List ℕ} {r q : ℕ} → Pages sheet room exit r → Pages sheet room other q → (exit ≡ other) × (r ≡ q)
+pages-unique {room = room} a b =
+    let e = prints-unique (a .prints) (b .prints) in
+    (a .wrote .here ∙ ap (λ (t : List ℕ). sets room 0 t) e ∙ sym (b .wrote .here), a .wrote .next ∙ ap (λ (t : List ℕ). 0 + length t) e ∙ sym (b .wrote .next))
