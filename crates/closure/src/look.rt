@@ -69,7 +69,7 @@ fn role_under(words: &[u64], at: Layout, counts: Counts, r: usize, u: bool, t: u
     let role = at.role;
     let w = words[role + r];
     if u {
-        return row::bit::has_bit(w, (16 + t) as u64);
+        return row::bit::has_bit(w, (crate::Store::ROLES + t) as u64);
     }
     row::bit::has_bit(w, t as u64)
 }

@@ -2,6 +2,7 @@
 ghost use Rattle.sheet.specs.Pass.{Judges};
 ghost use Rattle.report.specs.Lines.{Filled, JudgedAll, Pages};
 use crate::Tally;
+use closure::Store;
 use sheet::Ended;
 use sheet::Sheet;
 use sheet::Table;
@@ -45,7 +46,7 @@ fn print_ended(sheet: &[u8], e: Ended, words: &[u64], room: &mut [u8]) -> usize
 pub fn page(sheet: &[u8], room: &mut [u8]) -> usize
     ensures { λ r. ⌜ Pages (now (sheet .entry)) (now (room .entry)) (now (room .exit)) r ⌝ }
 {
-    let mut words = [0u64; 4528];
+    let mut words = [0u64; Store::WORDS];
     let e = sheet::sheets::fill(sheet, &mut words);
     print_ended(sheet, e, &words, room)
 }
