@@ -3,22 +3,21 @@ ghost use lib.ListN.{length};
 ghost use Rattle.text.specs.Bytes.{same as sameBytes, partOf, place as placeOf};
 ghost use Rattle.text.specs.Split.{endOf, split};
 
-// Whether the bytes are the same.
+// Whether the bytes are the same; compared from the last one back, as names that are alike mostly differ at their end.
 pub fn same(a: &[u8], b: &[u8]) -> bool
     ensures { λ r. ⌜ r ≡ sameBytes (now (a .entry)) (now (b .entry)) ⌝ }
 {
-    if a.len() == b.len() {
-        let mut i = 0;
-        while i < a.len() {
-            if a[i] == b[i] {
-                i += 1;
-            } else {
-                return false;
-            }
-        }
-        return true;
+    if a.len() != b.len() {
+        return false;
     }
-    false
+    let mut i = a.len();
+    while 0 < i {
+        i -= 1;
+        if a[i] != b[i] {
+            return false;
+        }
+    }
+    true
 }
 
 // So many bytes from a place on, or as many as there are.

@@ -1,10 +1,11 @@
--- Laws of tests over bytes, of comparing and of looking up, from a place of the list on. Assumes nothing.
-use mathlib.Core.Path.{_≡_, refl, sym, _∙_, ap}
+-- Laws of tests over bytes, of comparing and of looking up. Assumes nothing.
+use mathlib.Core.Path.{_≡_, refl, sym, _∙_, ap, subst}
 use mathlib.Core.Bool.{Bool, true, false}
 use mathlib.Core.List.{List, [], _∷_, map}
-use Prim.Native.Nat.{ℕ, suc, _+_, _-_, _<_, _≤_}
+use Prim.Native.Nat.{ℕ, zero, suc, _+_, _-_, _<_, _≤_}
 use native.Mathlib.Numerals.{add-one}
 use native.Mathlib.Omega.{arith}
+use native.Mathlib.Decide.{ℕ-discrete}
 use borrow.Author.Tests.{eq-eqb, ne-eqb}
 use lib.Dec.{eqb}
 use lib.ListN.{length, getD, take, drop, drop-of-length-le, length-drop}
@@ -37,19 +38,30 @@ same-length [] (b ∷ t) h = refl
 same-length (a ∷ s) [] h = refl
 same-length (a ∷ s) (b ∷ t) h = cond-both (λ (x : Bool). x ≡ false) (eqb a b) (same-length s t (λ q. h (ap suc q))) refl
 
-module _ (a b : List ℕ) (i : ℕ) where
-  pub same-out : length a ≤ i → length b ≤ i → same (drop i a) (drop i b) ≡ true
-  unfolding same
-  same-out h g = rw (drop-of-length-le a h, drop-of-length-le b g)
+-- a byte that differs
+pub same-off : (a b : List ℕ) (i : ℕ) → i < length a → i < length b → (getD a i 0 ≡ getD b i 0 → ⊥) → same a b ≡ false
+unfolding same
+same-off [] b i h g e = absurd (omega arith)
+same-off (a ∷ s) [] i h g e = absurd (omega arith)
+same-off (a ∷ s) (b ∷ t) zero h g e = rw (ne-eqb _ _ e)
+same-off (a ∷ s) (b ∷ t) (suc i) h g e = cond-both (λ (x : Bool). x ≡ false) (eqb a b) (same-off s t i (omega arith) (omega arith) e) refl
 
-  module _ (h : i < length a) (g : i < length b) where
-    pub same-on : getD a i 0 ≡ getD b i 0 → same (drop i a) (drop i b) ≡ same (drop (i + 1) a) (drop (i + 1) b)
-    unfolding same
-    same-on e = rw (add-one, drop-cons a i 0, drop-cons b i 0, same, eq-eqb _ _ e)
+-- no byte differs
+pub same-all : (a b : List ℕ) → length a ≡ length b → ((i : ℕ) → i < length a → getD a i 0 ≡ getD b i 0) → same a b ≡ true
+unfolding same
+same-all [] [] l f = refl
+same-all [] (b ∷ t) l f = absurd (omega arith)
+same-all (a ∷ s) [] l f = absurd (omega arith)
+same-all (a ∷ s) (b ∷ t) l f = rw (eq-eqb _ _ (f 0 (omega arith))) (same-all s t (omega arith) (λ i h. f (suc i) (omega arith)))
 
-    pub same-off : (getD a i 0 ≡ getD b i 0 → ⊥) → same (drop i a) (drop i b) ≡ false
-    unfolding same
-    same-off e = rw (drop-cons a i 0, drop-cons b i 0, same, ne-eqb _ _ e)
+-- the lists agree from the place before i on
+pub agree-more : (a b : List ℕ) (i : ℕ) → ((j : ℕ) → i ≤ j → j < length a → getD a j 0 ≡ getD b j 0) → getD a (i - 1) 0 ≡ getD b (i - 1) 0
+    → (j : ℕ) → i - 1 ≤ j → j < length a → getD a j 0 ≡ getD b j 0
+agree-more a b i f e j l h = go (ℕ-discrete j (i - 1))
+  where
+    go : Dec (j ≡ i - 1) → getD a j 0 ≡ getD b j 0
+    go (yes q) = subst (λ (k : ℕ). getD a k 0 ≡ getD b k 0) (sym q) e
+    go (no q) = f j (omega arith) h
 
 -- ---- parts
 
