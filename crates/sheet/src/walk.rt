@@ -7,6 +7,7 @@ ghost use Rattle.sheet.specs.Due.{dues, isExpr};
 ghost use Rattle.sheet.specs.Names.{nodesOf};
 ghost use Rattle.sheet.specs.Fault.{none, lineLimit};
 ghost use Rattle.sheet.specs.Table.{Roomy, Step, WalkedBy, namesOf, opening, pending};
+ghost use Rattle.sheet.specs.Words.{operatorOf};
 use crate::Due;
 use crate::Lead;
 use crate::Lineup;
@@ -148,6 +149,16 @@ fn due_nodes(d: Due, o: Operator) -> usize
     0
 }
 
+// The word that a field is, asked only where an expression is due.
+fn word_in(d: Due, f: &[u8]) -> Operator
+    ensures { λ r. ⌜ r ≡ cond (isExpr d) (operatorOf (now (f .entry))) Operator.None ⌝ }
+{
+    if crate::dues::is_expr(d) {
+        return crate::words::operator(f);
+    }
+    Operator::None
+}
+
 // What the fields of a line from a place on come to, where the line-up is due.
 pub fn walk(sheet: &[u8], t: Table, line: &[u8], from: usize, l: Lineup) -> Walked
     requires { ⌜ Roomy t × (length (now line) ≤ lineLimit) ⌝ }
@@ -167,7 +178,7 @@ pub fn walk(sheet: &[u8], t: Table, line: &[u8], from: usize, l: Lineup) -> Walk
         }
         let f = text::line::field(line, at);
         let d = next_due(l, p);
-        let o = crate::words::operator(f);
+        let o = word_in(d, f);
         fault = crate::faults::lower(fault, crate::faults::field(sheet, t, d, f));
         nodes += due_nodes(d, o);
         p = step(l, p, o);

@@ -1,5 +1,5 @@
 -- Laws of the walk along the fields of a line. Assumes nothing.
-use mathlib.Core.Path.{_≡_, refl, sym, _∙_}
+use mathlib.Core.Path.{_≡_, refl, sym, ap, _∙_}
 use mathlib.Core.Bool.{Bool, true, false, cond, true≢false}
 use mathlib.Core.List.{List, [], _∷_}
 use Prim.Native.Nat.{ℕ, zero, suc, _+_}
@@ -8,7 +8,8 @@ use lib.ListN.{getD}
 use Rattle.sheet.specs.declared.Due.{Due}
 use Rattle.sheet.specs.declared.Due.the-variants as due
 use Rattle.sheet.specs.declared.Operator.{Operator}
-use Rattle.sheet.specs.Due.{fits, isExpr}
+use Rattle.sheet.specs.declared.Operator.the-variants as operator
+use Rattle.sheet.specs.Due.{fits, isExpr, wanted}
 use Rattle.sheet.specs.Names.{Names, fieldFault, fieldFaults, lowerFault, nodesIn, nodesOf}
 use Rattle.sheet.specs.Fault.{none}
 use Rattle.sheet.specs.Table.{Stepped, WalkedBy}
@@ -39,13 +40,21 @@ module _ (n : Names) (ds : List Due) (fs : List Field) where
   along-end [] a k b e w = record { fit = e ∙ sym (w .fit); fault = sym (w .faults ∙ lower-zero a); nodes = omega (arith, w .nodes) }
   along-end (d ∷ es) a k b e w = record { fit = e ∙ sym (w .fit); fault = sym (w .faults ∙ lower-zero a); nodes = omega (arith, w .nodes) }
 
-  pub along-step : (es es′ : List Due) (gs : List Field) (f : Field) (d : Due) (o : Operator) (a b k m : ℕ) → none es ≡ false → Stepped es o es′ → d ≡ getD es 0 due.Nothing → o ≡ operatorOf f
-      → b ≡ lowerFault a (fieldFault n d f) → m ≡ cond (isExpr d) (nodesOf o) 0 → Along n ds es fs (f ∷ gs) a k → Along n ds es′ fs gs b (k + m)
+  -- what is told of the word where an expression is due, and only there
+  told-if : {A : Type 0} (b : Bool) (g : Operator → A) (z : A) (o w : Operator) → o ≡ cond b w operator.None → cond b (g o) z ≡ cond b (g w) z
+  told-if true g z o w q = ap g q
+  told-if false g z o w q = refl
+
+  pub along-step : (es es′ : List Due) (gs : List Field) (f : Field) (d : Due) (o : Operator) (a b k m : ℕ) → none es ≡ false → Stepped es o es′ → d ≡ getD es 0 due.Nothing
+      → o ≡ cond (isExpr d) (operatorOf f) operator.None → b ≡ lowerFault a (fieldFault n d f) → m ≡ cond (isExpr d) (nodesOf o) 0 → Along n ds es fs (f ∷ gs) a k → Along n ds es′ fs gs b (k + m)
   unfolding fits fieldFaults nodesIn
   along-step [] es′ gs f d o a b k m z s h q p r w = absurd (true≢false z)
   along-step (x ∷ es) es′ gs f d o a b k m z s h q p r w =
+      let v = rw h at q in
+      let l = told-if (isExpr x) wanted [] o (operatorOf f) v in
+      let c = told-if (isExpr x) nodesOf 0 o (operatorOf f) v in
       record {
-        fit = w .fit ∙ rw (s, q);
-        faults = w .faults ∙ rw (s, p, q, h) (sym (lower-assoc a (fieldFault n x f) _));
-        nodes = w .nodes ∙ rw (s, r, q, h) (omega arith);
+        fit = w .fit ∙ rw (s, l);
+        faults = w .faults ∙ rw (s, p, l, h) (sym (lower-assoc a (fieldFault n x f) _));
+        nodes = w .nodes ∙ rw (s, r, h, l, c) (omega arith);
       }

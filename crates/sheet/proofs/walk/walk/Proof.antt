@@ -44,8 +44,8 @@ field-requires c κs = search needs
 next-due-requires : tie.Need-next-due-requires Inv-loop μ-loop
 next-due-requires c κs = search needs
 
-operator-requires : tie.Need-operator-requires Inv-loop μ-loop
-operator-requires c κs = search needs
+word-in-requires : tie.Need-word-in-requires Inv-loop μ-loop
+word-in-requires c κs = search needs
 
 field-requires-2 : tie.Need-field-requires-2 Inv-loop μ-loop
 field-requires-2 c κs = search needs
@@ -85,7 +85,7 @@ loop-again c =
       omega (arith, q, g, c .past .ensures, s .exprs),
       omega (arith, q, g, c .past .ensures, s .own),
       omega (arith, q, g, c .past .ensures, c .before .before .due-nodes .ensures .1),
-      along-step (namesOf (x .sheet .now) (x .t)) (dues (x .l)) _ (pending (x .l) (v .p)) _ _ _ _ _ (v .fault) _ (v .nodes) _ (sym (c .before .before .before .before .before .before .before .before .before .none-left .ensures) ∙ c .before .before .before .before .before .before .before .before .if1 .left) (s .due) (c .before .before .before .before .before .before .next-due .ensures) (c .before .before .before .before .before .operator .ensures) (c .before .before .before .lower .ensures ∙ rw (c .before .before .before .before .field2 .ensures))
+      along-step (namesOf (x .sheet .now) (x .t)) (dues (x .l)) _ (pending (x .l) (v .p)) _ _ _ _ _ (v .fault) _ (v .nodes) _ (sym (c .before .before .before .before .before .before .before .before .before .none-left .ensures) ∙ c .before .before .before .before .before .before .before .before .if1 .left) (s .due) (c .before .before .before .before .before .before .next-due .ensures) (c .before .before .before .before .before .word-in .ensures) (c .before .before .before .lower .ensures ∙ rw (c .before .before .before .before .field2 .ensures))
           (c .before .before .due-nodes .ensures .0) z,
     )
 
@@ -111,7 +111,7 @@ walk-spec =
     returns
     field-requires
     next-due-requires
-    operator-requires
+    word-in-requires
     field-requires-2
     lower-requires
     due-nodes-requires
