@@ -1,7 +1,7 @@
 ghost use mathlib.Core.Path.{_≡_};
 ghost use Prim.Native.Nat.{_+_, _*_, _≤_, _<_};
 ghost use Rattle.logic.specs.Decides.{Decides};
-ghost use Rattle.row.specs.Pick.{Among};
+ghost use Rattle.row.specs.Pick.{Among, Marks};
 ghost use Rattle.closure.specs.Cell.{cellOf};
 ghost use Rattle.closure.specs.Cell.Cell.{Same, Under, RoleUnder, In, Link};
 ghost use Rattle.closure.specs.Layout.{ClosedStore, Holds, Laid, itemLimit, linkAt, roleLimit, widest};
@@ -139,4 +139,21 @@ pub fn join_links(
 {
     let from = link_row(at, r, a);
     row::copy::together(words, from, at.width, p)
+}
+
+// The items that the role r links to x.
+pub fn back_row(words: &[u64], at: Layout, counts: Counts, r: usize, x: usize) -> [u64; 8]
+    requires { ⌜ Laid at (now words) × ClosedStore (at .width) counts (now words) × (r < counts .roles) × (x < counts .items) ⌝ }
+    ensures { λ t. ⌜ Marks (counts .items) t (λ y. Holds (at .width) counts (now (words .entry)) (Link r y x)) ⌝ }
+{
+    let width = at.width;
+    let mut from = link_row(at, r, 0) + x / 64;
+    let mut t = [0u64; 8];
+    let mut h = 0;
+    while h < width {
+        t[h] = row::copy::gather(words, from, width, (x % 64) as u64, 64);
+        from += 64 * width;
+        h += 1;
+    }
+    t
 }
