@@ -8,6 +8,7 @@ pub mod Articles
 pub mod Holding
 pub mod Short
 pub mod Found
+pub mod Pairs
 pub mod Reach
 pub mod Plan
 pub mod Listed

@@ -1,13 +1,11 @@
 ghost use mathlib.Core.Path.{_≡_};
-ghost use mathlib.Core.Bool.{_&&_};
-ghost use Prim.Native.Nat.{_<_};
-ghost use lib.Dec.{eqb};
+ghost use mathlib.Core.Bool.{true};
+ghost use Prim.Native.Nat.{_*_, _≤_, _<_};
 ghost use Rattle.logic.specs.Decides.{Decides};
 ghost use Rattle.row.specs.Row.{RowHas};
-ghost use Rattle.row.specs.Pick.{Marks};
+ghost use Rattle.row.specs.Pick.{Marks, room};
 ghost use Rattle.closure.specs.Layout.{ClosedStore, Holds, Laid};
 ghost use Rattle.rule.specs.Breaks.{BreaksPair};
-ghost use Rattle.rule.specs.Reach.{EndsOf};
 ghost use Rattle.rule.specs.Plan.{BreaksBy, PlaceBreaks, Planned, RootRow, isPair, leftRoot, rightRoot};
 use crate::Head;
 use crate::Plan;
@@ -16,50 +14,6 @@ use crate::Rule;
 use closure::Counts;
 use closure::Item;
 use closure::Layout;
-
-// Whether x is the item a, y is the item b, and `on`.
-fn named(x: usize, a: Item, y: usize, b: Item, on: bool) -> bool
-    ensures { λ r. ⌜ r ≡ (eqb x (a .0) && (eqb y (b .0) && on)) ⌝ }
-{
-    row::bit::both(x == a.0, row::bit::both(y == b.0, on))
-}
-
-// Whether the rule is broken by the pair of x and y. For a chain, `ends` marks the ends of its paths from x.
-fn breaks_pair(
-    words: &[u64],
-    at: Layout,
-    counts: Counts,
-    head: Head,
-    ends: &[u64; 8],
-    x: usize,
-    y: usize,
-) -> bool
-    requires { ⌜ Laid at (now words) × ClosedStore (at .width) counts (now words) × (y < counts .items) × EndsOf (Holds (at .width) counts (now words)) counts head x (now ends) ⌝ }
-    ensures { λ r. ⌜ Decides r (BreaksPair (Holds (at .width) counts (now (words .entry))) counts head x y) ⌝ }
-{
-    match head {
-        Head::Sub(_, _) => false,
-        Head::RoleSub(u, v) => {
-            let on = crate::look::linked(words, at, counts, u, x, y);
-            row::bit::both(on, !crate::look::linked(words, at, counts, v, x, y))
-        }
-        Head::Chain(_, _, _, _, _, u) => {
-            let on = row::pick::has(ends, y);
-            row::bit::both(on, !crate::look::linked(words, at, counts, u, x, y))
-        }
-        Head::Ref(_) => false,
-        Head::Irr(_) => false,
-        Head::Dis(u, v) => {
-            let on = crate::look::linked(words, at, counts, u, x, y);
-            row::bit::both(on, crate::look::linked(words, at, counts, v, x, y))
-        }
-        Head::In(_, _) => false,
-        Head::Rel(u, a, b) => named(x, a, y, b, !crate::look::linked(words, at, counts, u, x, y)),
-        Head::NoRel(u, a, b) => named(x, a, y, b, crate::look::linked(words, at, counts, u, x, y)),
-        Head::Same(a, b) => named(x, a, y, b, !closure::look::same(words, at, counts, x, y)),
-        Head::Differ(a, b) => named(x, a, y, b, closure::look::same(words, at, counts, x, y)),
-    }
-}
 
 // Whether the rule is broken by x alone. The rows left and right are of what its roots hold of.
 fn breaks_alone(
@@ -89,26 +43,20 @@ fn breaks_alone(
     }
 }
 
-// The ends of a chain's paths from x; for another rule an empty row.
-fn ends_of(words: &[u64], at: Layout, counts: Counts, head: Head, x: usize) -> [u64; 8]
-    requires { ⌜ Laid at (now words) × ClosedStore (at .width) counts (now words) × (x < counts .items) ⌝ }
-    ensures { λ r. ⌜ EndsOf (Holds (at .width) counts (now (words .entry))) counts head x r ⌝ }
+// The item b alone, if x is the item a, b is declared, and `on`.
+fn named(counts: Counts, x: usize, a: Item, b: Item, on: bool) -> [u64; 8]
+    requires { ⌜ counts .items ≤ 64 * room ⌝ }
+    ensures { λ r. ⌜ Marks (counts .items) r (λ y. (x ≡ a .0) × (y ≡ b .0) × (on ≡ true)) ⌝ }
 {
-    match head {
-        Head::Sub(_, _) => row::pick::empty(),
-        Head::RoleSub(_, _) => row::pick::empty(),
-        Head::Chain(k, a, b, c, d, _) => {
-            crate::reach::path_row(words, at, counts, k, a, b, c, d, x)
-        }
-        Head::Ref(_) => row::pick::empty(),
-        Head::Irr(_) => row::pick::empty(),
-        Head::Dis(_, _) => row::pick::empty(),
-        Head::In(_, _) => row::pick::empty(),
-        Head::Rel(_, _, _) => row::pick::empty(),
-        Head::NoRel(_, _, _) => row::pick::empty(),
-        Head::Same(_, _) => row::pick::empty(),
-        Head::Differ(_, _) => row::pick::empty(),
+    let mut r = row::pick::empty();
+    if x != a.0 {
+        return r;
     }
+    if counts.items <= b.0 {
+        return r;
+    }
+    row::pick::mark(&mut r, b.0, on);
+    r
 }
 
 // The items y with which x breaks the rule.
@@ -116,15 +64,40 @@ fn pair_row(words: &[u64], at: Layout, counts: Counts, head: Head, x: usize) -> 
     requires { ⌜ Laid at (now words) × ClosedStore (at .width) counts (now words) × (x < counts .items) ⌝ }
     ensures { λ r. ⌜ Marks (counts .items) r (BreaksPair (Holds (at .width) counts (now (words .entry))) counts head x) ⌝ }
 {
-    let ends = ends_of(words, at, counts, head, x);
-    let mut r = row::pick::empty();
-    let mut y = 0;
-    while y < counts.items {
-        let on = breaks_pair(words, at, counts, head, &ends, x, y);
-        row::pick::mark(&mut r, y, on);
-        y += 1;
+    match head {
+        Head::Sub(_, _) => row::pick::empty(),
+        Head::RoleSub(u, v) => {
+            let on = crate::found::links(words, at, counts, u, x);
+            row::pick::without(&on, &crate::found::links(words, at, counts, v, x))
+        }
+        Head::Chain(k, a, b, c, d, u) => {
+            let on = crate::reach::path_row(words, at, counts, k, a, b, c, d, x);
+            row::pick::without(&on, &crate::found::links(words, at, counts, u, x))
+        }
+        Head::Ref(_) => row::pick::empty(),
+        Head::Irr(_) => row::pick::empty(),
+        Head::Dis(u, v) => {
+            let on = crate::found::links(words, at, counts, u, x);
+            row::pick::meet(&on, &crate::found::links(words, at, counts, v, x))
+        }
+        Head::In(_, _) => row::pick::empty(),
+        Head::Rel(u, a, b) => {
+            let on = crate::look::linked(words, at, counts, u, x, b.0);
+            named(counts, x, a, b, !on)
+        }
+        Head::NoRel(u, a, b) => {
+            let on = crate::look::linked(words, at, counts, u, x, b.0);
+            named(counts, x, a, b, on)
+        }
+        Head::Same(a, b) => {
+            let on = closure::look::same(words, at, counts, x, b.0);
+            named(counts, x, a, b, !on)
+        }
+        Head::Differ(a, b) => {
+            let on = closure::look::same(words, at, counts, x, b.0);
+            named(counts, x, a, b, on)
+        }
     }
-    r
 }
 
 // Whether the rule is broken by pairs.

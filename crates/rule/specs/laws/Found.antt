@@ -1,14 +1,14 @@
 -- Laws of the row of the items found, and of taking an article from it. Assumes nothing.
 use mathlib.Core.Path.{_≡_}
 use mathlib.Core.Logic.{⊎-elim}
-use mathlib.Core.Bool.{false, Bool}
+use mathlib.Core.Bool.{Bool, true, false}
 use mathlib.Core.List.{List}
 use Prim.Native.Nat.{ℕ, _+_, _*_, _≤_, _<_}
 use native.Mathlib.Omega.{arith}
 use Rattle.logic.specs.Decides.{Decides}
 use Rattle.logic.specs.laws.Decides.{decides-iff}
 use Rattle.row.specs.Row.{RowHas}
-use Rattle.row.specs.Pick.{Among, Empty, Least, Met, Without, room}
+use Rattle.row.specs.Pick.{Among, Empty, Least, Marks, Met, Without, room}
 use Rattle.closure.specs.declared.Counts.{Counts}
 use Rattle.closure.specs.Cell.{Cell}
 use Rattle.closure.specs.Cell.Cell.{Same}
@@ -16,24 +16,34 @@ use Rattle.closure.specs.Layout.{ClosedStore, Holds, widest}
 use Rattle.closure.specs.Look.{LinksJoined}
 use Rattle.closure.specs.laws.Cells.{holds?}
 use Rattle.rule.specs.declared.RoleUse.{RoleUse}
-use Rattle.rule.specs.Meaning.{Articles}
+use Rattle.rule.specs.Meaning.{Articles, Linked, LinkedWay}
 use Rattle.rule.specs.Row.{Found}
 use Rattle.rule.specs.laws.Articles.{Taken, taken-more, taken-fewer}
 use Rattle.rule.specs.laws.Holding.{articles-iff}
+use Rattle.rule.specs.laws.Pairs.{marks-no}
 
 -- ---- the row of the items found
 
--- the row of x's links, met with the row p
-pub found-row : {C : Cell → Type 0} {n : Counts} {none links p r : List ℕ} (u : RoleUse) (x : ℕ) → u .inverse ≡ false → n .items ≤ 64 * room → Empty none → LinksJoined C n (u .role .0) x none links
-    → Met links p r → Among (n .items) r (Found C u (RowHas p) x)
-found-row u x v small e d m = rw v (record {
-  sound = λ b l h. (⊎-elim (λ z. absurd (e .none b z)) (λ z. z) (d .sound b (m .left b h)), m .right b h);
-  whole = λ b l h. m .has b (omega arith) (d .links b (h .0)) (h .1);
-})
+module _ (W : ℕ) (n : Counts) (s : List ℕ) (u : RoleUse) (x : ℕ) where
+  -- a role that is not declared links nothing
+  pub links-none : {r : List ℕ} → n .roles ≤ u .role .0 → Empty r → Marks (n .items) r (Linked (Holds W n s) u x)
+  links-none l e = marks-no e (λ y. none (u .inverse) y)
+    where
+      none : (v : Bool) (y : ℕ) → ¬ (LinkedWay (Holds W n s) v (u .role .0) x y)
+      none false y c = omega (arith, c .within)
+      none true y c = omega (arith, c .within)
 
--- a role that is not declared links nothing
-pub found-none : {W : ℕ} {n : Counts} {s r : List ℕ} → ClosedStore W n s → (u : RoleUse) (P : ℕ → Type 0) (x : ℕ) → u .inverse ≡ false → n .roles ≤ u .role .0 → Empty r → Among (n .items) r (Found (Holds W n s) u P x)
-found-none k u P x v l e = rw v (record { sound = λ b lb h. absurd (e .none b h); whole = λ b lb h. absurd (omega (arith, h .0 .within)) })
+  -- the row of the role's links
+  pub links-row : {none r : List ℕ} → u .inverse ≡ false → Empty none → LinksJoined (Holds W n s) n (u .role .0) x none r → Marks (n .items) r (Linked (Holds W n s) u x)
+  links-row v e d = rw v (record { sound = λ y h. let c = ⊎-elim (λ z. absurd (e .none y z)) (λ z. z) (d .sound y h) in (c .within .2, c); whole = λ y l c. d .links y c })
+
+  -- the row of its inverse's
+  pub links-back : {r : List ℕ} → u .inverse ≡ true → Marks (n .items) r (LinkedWay (Holds W n s) true (u .role .0) x) → Marks (n .items) r (Linked (Holds W n s) u x)
+  links-back v m = rw v m
+
+-- the row of the links, met with the row p
+pub found-row : (C : Cell → Type 0) (n : Counts) {all p r : List ℕ} (u : RoleUse) (x : ℕ) → n .items ≤ 64 * room → Marks (n .items) all (Linked C u x) → Met all p r → Among (n .items) r (Found C u (RowHas p) x)
+found-row C n u x small m t = record { sound = λ b l h. (m .sound b (t .left b h) .1, t .right b h); whole = λ b l h. t .has b (omega arith) (m .whole b l (h .0)) (h .1) }
 
 -- what is marked among the declared items has the articles of the row
 pub among-articles : {C : Cell → Type 0} {n : Counts} {k : ℕ} {b : Bool} {r : List ℕ} {P : ℕ → Type 0} → Among (n .items) r P → Decides b (Articles C n k (RowHas r)) → Decides b (Articles C n k P)

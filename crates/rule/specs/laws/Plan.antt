@@ -1,13 +1,11 @@
--- Laws of a rule's plan: tests of what breaks it, and that its places are those of the rule's findings. Assumes nothing.
+-- Laws of a rule's plan: that its places are those of the rule's findings. Assumes nothing.
 use mathlib.Core.Path.{_≡_, refl, sym, ap, _∙_, subst}
 use mathlib.Core.Logic.{⊎-elim}
-use mathlib.Core.Bool.{Bool, true, false, _&&_}
+use mathlib.Core.Bool.{Bool, true, false}
 use mathlib.Core.List.{List}
 use Prim.Native.Nat.{ℕ, _<_}
 use native.Mathlib.Omega.{arith}
-use lib.Dec.{eqb}
 use Rattle.logic.specs.Decides.{Decides}
-use Rattle.logic.specs.laws.Decides.{decides-both, decides-eq, decides-iff}
 use Rattle.row.specs.Row.{RowHas}
 use Rattle.row.specs.Pick.{Empty, Marked, Marks}
 use Rattle.closure.specs.declared.Counts.{Counts}
@@ -21,12 +19,6 @@ use Rattle.rule.specs.declared.Slot.{Slot}
 use Rattle.rule.specs.Breaks.{Breaks, BreaksAlone, BreaksPair}
 use Rattle.rule.specs.Plan.{BreaksBy, PlaceBreaks, PlaceIf, PlanBreaks, Planned, RootRow, isPair, leftRoot, placeOf, rightRoot, secondAt, secondIf}
 use Rattle.rule.specs.declared.Second.the-variants as second
-
--- ---- tests
-
--- a rule that names its two items
-pub decides-named : {r on : Bool} {P : Type 0} (x a y b : ℕ) → Decides on P → r ≡ (eqb x a && (eqb y b && on)) → Decides r ((x ≡ a) × (y ≡ b) × P)
-decides-named x a y b d e = decides-iff (λ z. (z .0, z .1 .0, z .1 .1)) (λ z. (z .0, (z .1, z .2))) (decides-both (decides-eq x a) (decides-both (decides-eq y b) d refl) e)
 
 -- ---- the row of x
 

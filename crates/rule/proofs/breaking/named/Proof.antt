@@ -1,16 +1,23 @@
 -- `rule::breaking::named` meets its contract. Assumes nothing.
 use borrow.Author.Needs.{needs}
+use Rattle.rule.specs.laws.Pairs.{named-no, named-one, named-out}
 use Rattle.rule.proofs.breaking.named.Statement.{statement}
 use Rattle.rule.proofs.breaking.named.Tie as tie
 
-both-requires : tie.Need-both-requires
-both-requires c κs = search needs
-
-both-requires-2 : tie.Need-both-requires-2
-both-requires-2 c κs = search needs
+empty-requires : tie.Need-empty-requires
+empty-requires c κs = search needs
 
 returns : tie.Need-returns
-returns c = rw (← c .before .both .ensures) (c .both2 .ensures)
+returns c = named-no (c .before .before .empty .ensures) (c .if1 .taken)
+
+returns-2 : tie.Need-returns-2
+returns-2 c = named-out (c .before .before .before .before .before .empty .ensures) (c .if2 .taken)
+
+mark-requires : tie.Need-mark-requires
+mark-requires c κs = search needs
+
+returns-3 : tie.Need-returns-3
+returns-3 c = named-one (c .before .before .before .before .before .before .before .empty .ensures) (c .before .before .before .before .before .if1 .left) (c .before .before .if2 .left) (c .mark .ensures)
 
 pub named-spec : {M : Type 1} → statement M
-named-spec = tie.close (tie.spec both-requires both-requires-2 returns)
+named-spec = tie.close (tie.spec empty-requires returns returns-2 mark-requires returns-3)
