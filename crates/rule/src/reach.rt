@@ -119,11 +119,10 @@ pub fn path_row(
     requires { ⌜ Laid at (now words) × ClosedStore (at .width) counts (now words) × (x < counts .items) ⌝ }
     ensures { λ r. ⌜ Marks (counts .items) r (Path (Holds (at .width) counts (now (words .entry))) counts (take k (a ∷ b ∷ c ∷ d ∷ [])) x) ⌝ }
 {
-    let from = alone(x);
     if k == 0 {
-        return from;
+        return alone(x);
     }
-    let first = step_row(words, at, counts, a, &from);
+    let first = crate::found::links(words, at, counts, a, x);
     if k == 1 {
         return first;
     }

@@ -109,11 +109,18 @@ module _ (C : Cell → Type 0) (n : Counts) where
   pub ends-last : (p q : List ℕ) (u : RoleUse) → Marks (n .items) q (Reached (Linked C u) (RowHas p)) → Marks (n .items) q (Ends C n (u ∷ []) (RowHas p))
   ends-last p q u m = ends-more p q u m (ends-none q (λ y h. m .sound y h .0))
 
-  -- from one item
-  pub ends-alone : {p r : List ℕ} {x : ℕ} {rs : List RoleUse} → x < 64 * room → Alone x p → Marks (n .items) r (Ends C n rs (RowHas p)) → Marks (n .items) r (Path C n rs x)
-  ends-alone {x = x} {rs = rs} l a d = record {
-    sound = λ y h. let e = d .sound y h in (e .0, subst (λ (z : ℕ). Path C n rs z y) (a .only (e .1 .from) (e .1 .has)) (e .1 .path));
-    whole = λ y ly e. d .whole y ly (record { from = x; has = a .has l; path = e });
+  -- a path of no role: the item itself
+  pub path-none : (x : ℕ) {r : List ℕ} → x < n .items → n .items ≤ 64 * room → Alone x r → Marks (n .items) r (Path C n [] x)
+  path-none x {r} l small a = record {
+    sound = λ y h. (omega (arith, a .only y h), sym (a .only y h));
+    whole = λ y ly e. subst (λ (z : ℕ). RowHas r z) e (a .has (omega arith));
+  }
+
+  -- a path from one item: the row of its links first
+  pub path-first : (x : ℕ) (q : List ℕ) {r : List ℕ} (u : RoleUse) {rs : List RoleUse} → Marks (n .items) q (Linked C u x) → Marks (n .items) r (Ends C n rs (RowHas q)) → Marks (n .items) r (Path C n (u ∷ rs) x)
+  path-first x q u m d = record {
+    sound = λ y h. let e = d .sound y h in let z = m .sound (e .1 .from) (e .1 .has) in (e .0, (e .1 .from, z .0, z .1, e .1 .path));
+    whole = λ y l e. d .whole y l (record { from = e .0; has = m .whole (e .0) (e .1) (e .2); path = e .3 });
   }
 
 -- a chain of four roles, of which more than three count
