@@ -1,7 +1,10 @@
 ghost use Rattle.logic.specs.Decides.{Decides};
 ghost use Rattle.row.specs.Row.{RowHas};
+ghost use Rattle.row.specs.Pick.{Marks};
 ghost use Rattle.closure.specs.Layout.{ClosedStore, Holds, Laid};
 ghost use Rattle.rule.specs.Meaning.{Articles};
+ghost use Rattle.rule.specs.Row.{Found};
+use crate::RoleUse;
 use closure::Counts;
 use closure::Layout;
 
@@ -22,4 +25,27 @@ pub fn articles(words: &[u64], at: Layout, counts: Counts, found: [u64; 8], k: u
         n += 1;
     }
     true
+}
+
+// The items that the role, or its inverse, links to items of the row p of at least k different articles.
+pub fn many(
+    words: &[u64],
+    at: Layout,
+    counts: Counts,
+    k: usize,
+    u: RoleUse,
+    p: &[u64; 8],
+) -> [u64; 8]
+    requires { ⌜ Laid at (now words) × ClosedStore (at .width) counts (now words) ⌝ }
+    ensures { λ r. ⌜ Marks (counts .items) r (λ x. Articles (Holds (at .width) counts (now (words .entry))) counts k (Found (Holds (at .width) counts (now (words .entry))) u (RowHas (now (p .entry))) x)) ⌝ }
+{
+    let mut r = row::pick::empty();
+    let mut x = 0;
+    while x < counts.items {
+        let found = crate::found::found(words, at, counts, u, p, x);
+        let on = articles(words, at, counts, found, k);
+        row::pick::mark(&mut r, x, on);
+        x += 1;
+    }
+    r
 }

@@ -38,8 +38,8 @@ fn test(
     }
 }
 
-// The row of a node, where p and q are the rows of its children.
-fn fill(
+// The row of a node, asked item by item, where p and q are the rows of its children.
+fn each(
     words: &[u64],
     at: Layout,
     counts: Counts,
@@ -58,6 +58,29 @@ fn fill(
         x += 1;
     }
     r
+}
+
+// The row of a node, where p and q are the rows of its children.
+fn fill(
+    words: &[u64],
+    at: Layout,
+    counts: Counts,
+    node: Node,
+    p: &[u64; 8],
+    q: &[u64; 8],
+) -> [u64; 8]
+    requires { ⌜ Laid at (now words) × ClosedStore (at .width) counts (now words) ⌝ }
+    ensures { λ r. ⌜ Marks (counts .items) r (NodeHolds (Holds (at .width) counts (now (words .entry))) counts node (RowHas (now (p .entry))) (RowHas (now (q .entry)))) ⌝ }
+{
+    match node {
+        Node::Name(_) => each(words, at, counts, node, p, q),
+        Node::Top => each(words, at, counts, node, p, q),
+        Node::Not(_) => each(words, at, counts, node, p, q),
+        Node::And(_, _) => each(words, at, counts, node, p, q),
+        Node::AtLeast(k, u, _) => crate::count::many(words, at, counts, k, u, p),
+        Node::SelfOf(_) => each(words, at, counts, node, p, q),
+        Node::One(_) => each(words, at, counts, node, p, q),
+    }
 }
 
 // The items that the expression at a node holds of, as a row of bits. It reads `left` nodes deep, by one call for each child.

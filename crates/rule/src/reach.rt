@@ -77,7 +77,7 @@ fn backward(words: &[u64], at: Layout, counts: Counts, role: usize, p: &[u64; 8]
 }
 
 // The items that the role, or its inverse, links an item of the row p to.
-fn step_row(words: &[u64], at: Layout, counts: Counts, u: RoleUse, p: &[u64; 8]) -> [u64; 8]
+pub fn step_row(words: &[u64], at: Layout, counts: Counts, u: RoleUse, p: &[u64; 8]) -> [u64; 8]
     requires { ⌜ Laid at (now words) × ClosedStore (at .width) counts (now words) ⌝ }
     ensures { λ r. ⌜ Marks (counts .items) r (Reached (Linked (Holds (at .width) counts (now (words .entry))) u) (RowHas (now (p .entry)))) ⌝ }
 {

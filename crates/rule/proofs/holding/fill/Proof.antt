@@ -1,58 +1,93 @@
--- `rule::holding::fill` meets its contract. The loop's invariant is the contract below `x`. Assumes nothing.
-use mathlib.Core.Path.{_≡_, _∙_}
-use Prim.Native.Nat.{_≤_, _-_}
-use native.Mathlib.Omega.{arith}
+-- `rule::holding::fill` meets its contract, by the node's kind. Assumes nothing.
 use borrow.Author.Needs.{needs}
-use lib.ListN.{length}
-use Rattle.row.specs.Row.{RowHas}
-use Rattle.row.specs.Pick.{Marks, room}
-use Rattle.closure.specs.Layout.{Holds}
-use Rattle.rule.specs.Row.{NodeHolds}
-use Rattle.row.specs.laws.Marks.{marks-done, marks-more, marks-none}
 use Rattle.rule.proofs.holding.fill.Statement.{statement}
 use Rattle.rule.proofs.holding.fill.Tie as tie
 
-abbrev Inv-loop : tie.InvT-loop
-Inv-loop words at counts node p q r₀ x₀ r x = (x ≤ counts .items) × (length r ≡ room) × Marks x r (NodeHolds (Holds (at .width) counts words) counts node (RowHas p) (RowHas q))
+enum-told : tie.Need-enum-told
+enum-told c = search needs
 
-abbrev μ-loop : tie.MeasureT-loop
-μ-loop words at counts node p q r₀ x₀ r x = counts .items - x
+each-requires : tie.Need-each-requires
+each-requires c κs = search needs
 
-empty-requires : tie.Need-empty-requires Inv-loop μ-loop
-empty-requires c κs = search needs
+enum-told-2 : tie.Need-enum-told-2
+enum-told-2 c = search needs
 
-loop-holds : tie.Need-loop-holds Inv-loop μ-loop
-loop-holds c = (omega arith, c .empty .ensures .len, marks-none (c .empty .ensures))
+each-requires-2 : tie.Need-each-requires-2
+each-requires-2 c κs = search needs
 
-test-requires : tie.Need-test-requires Inv-loop μ-loop
-test-requires c κs = search needs
+enum-told-3 : tie.Need-enum-told-3
+enum-told-3 c = search needs
 
-mark-requires : tie.Need-mark-requires Inv-loop μ-loop
-mark-requires c κs = search needs
+each-requires-3 : tie.Need-each-requires-3
+each-requires-3 c κs = search needs
 
-add-x : tie.Need-add-x Inv-loop μ-loop
-add-x c = omega arith
+enum-told-4 : tie.Need-enum-told-4
+enum-told-4 c = search needs
 
-loop-less : tie.Need-loop-less Inv-loop μ-loop
-loop-less c = omega arith
+each-requires-4 : tie.Need-each-requires-4
+each-requires-4 c κs = search needs
 
-loop-again : tie.Need-loop-again Inv-loop μ-loop
-loop-again c = (omega arith, c .mark .ensures .len ∙ c .before .before .before .before .before .loop .inv .1, marks-more (c .before .before .before .before .before .loop .inv .2) (c .before .before .test .ensures) (c .mark .ensures))
+enum-known-node : tie.Need-enum-known-node
+enum-known-node c = search needs
 
-returns : tie.Need-returns Inv-loop μ-loop
-returns c = marks-done (c .before .before .loop .inv .2) (c .before .before .loop .inv .0) (omega arith)
+many-requires : tie.Need-many-requires
+many-requires c κs = search needs
+
+enum-told-5 : tie.Need-enum-told-5
+enum-told-5 c = search needs
+
+each-requires-5 : tie.Need-each-requires-5
+each-requires-5 c κs = search needs
+
+enum-told-6 : tie.Need-enum-told-6
+enum-told-6 c = search needs
+
+each-requires-6 : tie.Need-each-requires-6
+each-requires-6 c κs = search needs
+
+returns : tie.Need-returns
+returns c = search needs
+
+returns-2 : tie.Need-returns-2
+returns-2 c = search needs
+
+returns-3 : tie.Need-returns-3
+returns-3 c = search needs
+
+returns-4 : tie.Need-returns-4
+returns-4 c = search needs
+
+returns-5 : tie.Need-returns-5
+returns-5 c = rw (c .before .before .node .given .1) (c .many .ensures)
+
+returns-6 : tie.Need-returns-6
+returns-6 c = search needs
+
+returns-7 : tie.Need-returns-7
+returns-7 c = search needs
 
 pub fill-spec : {M : Type 1} → statement M
 fill-spec =
     tie.close
     (tie.spec
-    Inv-loop
-    μ-loop
-    empty-requires
-    loop-holds
-    test-requires
-    mark-requires
-    add-x
-    loop-less
-    loop-again
-    returns)
+    enum-told
+    each-requires
+    enum-told-2
+    each-requires-2
+    enum-told-3
+    each-requires-3
+    enum-told-4
+    each-requires-4
+    enum-known-node
+    many-requires
+    enum-told-5
+    each-requires-5
+    enum-told-6
+    each-requires-6
+    returns
+    returns-2
+    returns-3
+    returns-4
+    returns-5
+    returns-6
+    returns-7)
