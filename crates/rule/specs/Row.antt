@@ -1,5 +1,5 @@
 -- What a node's row marks, from its children's rows.
-use mathlib.Core.Bool.{Bool, true, false}
+use mathlib.Core.Bool.{Bool, true, false, not}
 use Prim.Native.Nat.{ℕ}
 use Rattle.closure.specs.declared.Counts.{Counts}
 use Rattle.closure.specs.Cell.{Cell}
@@ -12,6 +12,10 @@ use Rattle.rule.specs.Meaning.{Linked, Articles}
 -- b has the property P and is linked from x
 abbrev pub Found : (Cell → Type 0) → RoleUse → (ℕ → Type 0) → ℕ → ℕ → Type 0
 Found C u P x b = Linked C u x b × P b
+
+-- the role for its inverse, and the inverse for the role
+abbrev pub turned : RoleUse → RoleUse
+turned u = record { role = u .role; inverse = not (u .inverse) }
 
 -- whether a node has a child
 abbrev pub hasFirst : Node → Bool

@@ -10,6 +10,7 @@ pub mod Short
 pub mod Found
 pub mod Pairs
 pub mod Reach
+pub mod Many
 pub mod Plan
 pub mod Listed
 pub mod Cursor

@@ -1,9 +1,10 @@
+ghost use mathlib.Core.Path.{_≡_};
 ghost use Rattle.logic.specs.Decides.{Decides};
 ghost use Rattle.row.specs.Row.{RowHas};
 ghost use Rattle.row.specs.Pick.{Marks};
 ghost use Rattle.closure.specs.Layout.{ClosedStore, Holds, Laid};
 ghost use Rattle.rule.specs.Meaning.{Articles};
-ghost use Rattle.rule.specs.Row.{Found};
+ghost use Rattle.rule.specs.Row.{Found, turned as turnedOf};
 use crate::RoleUse;
 use closure::Counts;
 use closure::Layout;
@@ -27,8 +28,8 @@ pub fn articles(words: &[u64], at: Layout, counts: Counts, found: [u64; 8], k: u
     true
 }
 
-// The items that the role, or its inverse, links to items of the row p of at least k different articles.
-pub fn many(
+// The items that the role, or its inverse, links to items of the row p of at least k different articles, asked one by one.
+fn one_by_one(
     words: &[u64],
     at: Layout,
     counts: Counts,
@@ -48,4 +49,35 @@ pub fn many(
         x += 1;
     }
     r
+}
+
+// The role, if this is its inverse; the inverse, if it is the role.
+fn turned(u: RoleUse) -> RoleUse
+    ensures { λ r. ⌜ r ≡ turnedOf u ⌝ }
+{
+    let role = u.role;
+    let inverse = u.inverse;
+    RoleUse {
+        role,
+        inverse: !inverse,
+    }
+}
+
+// The items that the role, or its inverse, links to items of the row p of at least k different articles. Of one article: by the step of the turned role from p.
+pub fn many(
+    words: &[u64],
+    at: Layout,
+    counts: Counts,
+    k: usize,
+    u: RoleUse,
+    p: &[u64; 8],
+) -> [u64; 8]
+    requires { ⌜ Laid at (now words) × ClosedStore (at .width) counts (now words) ⌝ }
+    ensures { λ r. ⌜ Marks (counts .items) r (λ x. Articles (Holds (at .width) counts (now (words .entry))) counts k (Found (Holds (at .width) counts (now (words .entry))) u (RowHas (now (p .entry))) x)) ⌝ }
+{
+    if k == 1 {
+        let back = turned(u);
+        return crate::reach::step_row(words, at, counts, back, p);
+    }
+    one_by_one(words, at, counts, k, u, p)
 }
