@@ -8,6 +8,7 @@ pub mod Promise
 pub mod Demand2
 pub mod Row
 pub mod Reach
+pub mod Tally
 pub mod Plan
 pub mod Cursor
 pub mod Search

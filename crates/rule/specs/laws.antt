@@ -11,6 +11,7 @@ pub mod Found
 pub mod Pairs
 pub mod Reach
 pub mod Many
+pub mod Tally
 pub mod Plan
 pub mod Listed
 pub mod Cursor

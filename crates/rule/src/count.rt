@@ -63,7 +63,7 @@ fn turned(u: RoleUse) -> RoleUse
     }
 }
 
-// The items that the role, or its inverse, links to items of the row p of at least k different articles. Of one article: by the step of the turned role from p.
+// The items that the role, or its inverse, links to items of the row p of at least k different articles. Of one article: by the step of the turned role from p; of an inverse: by tallies.
 pub fn many(
     words: &[u64],
     at: Layout,
@@ -78,6 +78,10 @@ pub fn many(
     if k == 1 {
         let back = turned(u);
         return crate::reach::step_row(words, at, counts, back, p);
+    }
+    if crate::tally::counts_for(counts, k, u) {
+        let role = u.role.0;
+        return crate::tally::tally(words, at, counts, k, role, p);
     }
     one_by_one(words, at, counts, k, u, p)
 }

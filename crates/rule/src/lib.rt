@@ -9,6 +9,7 @@ pub mod look;
 pub mod nodes;
 pub mod reach;
 pub mod seek;
+pub mod tally;
 
 use closure::Concept;
 use closure::Counts;

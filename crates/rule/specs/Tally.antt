@@ -1,0 +1,63 @@
+-- Tallies: rows of items, one for each number of articles, in one list of words. Row j begins at word 8 * j.
+use mathlib.Core.Path.{_≡_}
+use mathlib.Core.Bool.{true}
+use mathlib.Core.List.{List}
+use Prim.Native.Nat.{ℕ, suc, _+_, _-_, _*_, _/_, _%_, _≤_, _<_}
+use lib.Bits.{bitOr, bitAnd}
+use lib.ListN.{length, getD}
+use Rattle.row.specs.Bit.{Has}
+use Rattle.row.specs.Pick.{room}
+use Rattle.closure.specs.declared.Counts.{Counts}
+use Rattle.closure.specs.Cell.{Cell, DeclaredItem, DeclaredRole}
+use Rattle.closure.specs.Cell.Cell.{Same, Link}
+use Rattle.rule.specs.declared.RoleUse.{RoleUse}
+use Rattle.rule.specs.Meaning.{Articles}
+
+-- the most articles that tallies count
+abbrev pub most : ℕ
+most = 8
+
+-- how many words the tallies have: rows 0 to `most`
+abbrev pub tallyRoom : ℕ
+tallyRoom = 72
+
+-- tallies count k articles of the role use: it is the inverse of a declared role
+pub record Countable (n : Counts) (k : ℕ) (u : RoleUse) : Type 0 where
+  pub inverse : u .inverse ≡ true
+  pub role : DeclaredRole n (u .role .0)
+  pub some : 1 ≤ k
+  pub few : k ≤ most
+
+-- x is in row j of the tallies
+abbrev pub TallyHas : List ℕ → ℕ → ℕ → Type 0
+TallyHas t j x = Has (getD t (room * j + x / 64) 0) (x % 64)
+
+-- row 0 has every number, the other rows have none
+pub record Blank (t : List ℕ) : Type 0 where
+  pub len : length t ≡ tallyRoom
+  pub all : (x : ℕ) → x < 64 * room → TallyHas t 0 x
+  pub none : (j x : ℕ) → ¬ (TallyHas t (suc j) x)
+
+-- u is t, but each word from `from` up to `to` has taken on what the row before has at its place and the row r has too
+pub record Counted (from to : ℕ) (r t u : List ℕ) : Type 0 where
+  pub len : length u ≡ length t
+  pub words : (i : ℕ) → from ≤ i → i < to → getD u i 0 ≡ bitOr (getD t i 0) (bitAnd (getD t (i - room) 0) (getD r (i % room) 0))
+  pub below : (i : ℕ) → i < from → getD u i 0 ≡ getD t i 0
+
+-- of the items with the property P, whole articles are left
+pub record Leaves (C : Cell → Type 0) (n : Counts) (P Left : ℕ → Type 0) : Type 0 where
+  pub part : (x : ℕ) → DeclaredItem n x → Left x → P x
+  pub whole : (x y : ℕ) → DeclaredItem n x → DeclaredItem n y → Left x → P y → C (Same x y) → Left y
+
+-- the role r links b to x, and b is an item with the property P that is left no more
+pub record Seen (C : Cell → Type 0) (r : ℕ) (P Left : ℕ → Type 0) (x b : ℕ) : Type 0 where
+  pub link : C (Link r b x)
+  pub has : P b
+  pub gone : ¬ (Left b)
+
+-- row j, for j up to k, has the items that j or more of the articles seen are linked to
+pub record Tallied (C : Cell → Type 0) (n : Counts) (r k : ℕ) (P Left : ℕ → Type 0) (t : List ℕ) : Type 0 where
+  pub len : length t ≡ tallyRoom
+  pub leaves : Leaves C n P Left
+  pub sound : (j x : ℕ) → j ≤ k → x < 64 * room → TallyHas t j x → Articles C n j (Seen C r P Left x)
+  pub whole : (j x : ℕ) → j ≤ k → DeclaredItem n x → Articles C n j (Seen C r P Left x) → TallyHas t j x
