@@ -43,6 +43,24 @@ fn breaks_alone(
     }
 }
 
+// The items that break the plan's rule alone.
+pub fn alone_row(words: &[u64], at: Layout, counts: Counts, plan: Plan) -> [u64; 8]
+    requires { ⌜ Laid at (now words) × ClosedStore (at .width) counts (now words) ⌝ }
+    ensures { λ r. ⌜ Marks (counts .items) r (BreaksBy (Holds (at .width) counts (now (words .entry))) (RowHas (plan .left)) (RowHas (plan .right)) (plan .head)) ⌝ }
+{
+    let head = plan.head;
+    let left = plan.left;
+    let right = plan.right;
+    let mut r = row::pick::empty();
+    let mut x = 0;
+    while x < counts.items {
+        let on = breaks_alone(words, at, counts, head, &left, &right, x);
+        row::pick::mark(&mut r, x, on);
+        x += 1;
+    }
+    r
+}
+
 // The item b alone, if x is the item a, b is declared, and `on`.
 fn named(counts: Counts, x: usize, a: Item, b: Item, on: bool) -> [u64; 8]
     requires { ⌜ counts .items ≤ 64 * room ⌝ }

@@ -22,8 +22,8 @@ fn ones(r: [u64; 8]) -> u64
     row::bit::count(&r)
 }
 
-// How many findings there are.
-pub fn count(words: &[u64], at: Layout, counts: Counts, plan: Plan) -> u64
+// How many findings there are, row by row.
+fn count_rows(words: &[u64], at: Layout, counts: Counts, plan: Plan) -> u64
     requires { ⌜ Laid at (now words) × ClosedStore (at .width) counts (now words) ⌝ }
     ensures { λ r. ⌜ Number (PlanBroken (Holds (at .width) counts (now (words .entry))) counts plan) r ⌝ }
 {
@@ -35,6 +35,18 @@ pub fn count(words: &[u64], at: Layout, counts: Counts, plan: Plan) -> u64
         x += 1;
     }
     n
+}
+
+// How many findings there are.
+pub fn count(words: &[u64], at: Layout, counts: Counts, plan: Plan) -> u64
+    requires { ⌜ Laid at (now words) × ClosedStore (at .width) counts (now words) ⌝ }
+    ensures { λ r. ⌜ Number (PlanBroken (Holds (at .width) counts (now (words .entry))) counts plan) r ⌝ }
+{
+    let head = plan.head;
+    if crate::breaking::is_pair(head) {
+        return count_rows(words, at, counts, plan);
+    }
+    ones(crate::breaking::alone_row(words, at, counts, plan))
 }
 
 // The cursor at the first finding from the row `from` on, or at the end.

@@ -23,7 +23,7 @@ use Rattle.rule.specs.declared.Plan.{Plan}
 use Rattle.rule.specs.declared.Second.{Second}
 use Rattle.rule.specs.Findings.{Before, SecondBefore, findingOf}
 use Rattle.rule.specs.Reach.{Alone}
-use Rattle.rule.specs.Plan.{PlaceBreaks, PlanBreaks, isPair, placeOf, secondAt, secondIf}
+use Rattle.rule.specs.Plan.{BreaksBy, PlaceBreaks, PlaceIf, PlanBreaks, isPair, placeOf, secondAt, secondIf}
 use Rattle.rule.specs.Cursor.{Advances, Ahead, Begins, BrokenBelow, Gone, Left, Listed, PlanBroken, Sought, Stands, currentOf}
 use Rattle.rule.specs.laws.Plan.{breaks-item, breaks-place, breaks-second, place-breaks, place-second, place-unique}
 use Rattle.rule.specs.laws.Listed.{finding-parts, listed-iff, order-apart, order-before, order-rest}
@@ -309,3 +309,24 @@ module _ (C : Cell → Type 0) (n : Counts) (p : Plan) where
   -- after the last row
   pub count-all : {k x : ℕ} → Number (BrokenBelow C n p x) k → n .items ≤ x → Number (PlanBroken C n p) k
   count-all a l = number-iff (λ q h. h .1) (λ q h. (omega (arith, breaks-item C n p (q .0) (q .1) h), h)) a
+
+  -- a rule about one item: as many as the items that break it
+  pub count-alone : {k : ℕ} {r : List ℕ} → isPair (p .head) ≡ false → Marks (n .items) r (BreaksBy C (RowHas (p .left)) (RowHas (p .right)) (p .head)) → Number (RowHas r) k → Number (PlanBroken C n p) k
+  count-alone {k} {r} e m b = number-iff to from (number-map place (λ x z h g q. ap (λ (t : ℕ × Second). t .0) q) b)
+    where
+      place : ℕ → ℕ × Second
+      place x = (x, secondAt (p .head) 0)
+
+      Here : ℕ × Second → Type 0
+      Here q = (x : ℕ) × RowHas r x × (q ≡ place x)
+
+      to : (q : ℕ × Second) → Here q → PlanBroken C n p q
+      to q h =
+          let z = m .sound (h .0) (h .1) in
+          subst (PlanBroken C n p) (sym (h .2)) (place-breaks C n p (h .0) 0 (z .0) (omega (arith, z .0)) (subst (λ (t : Bool). PlaceIf C n p (h .0) t 0) (sym e) (refl, z .1)))
+
+      from : (q : ℕ × Second) → PlanBroken C n p q → Here q
+      from q h =
+          let z = subst (λ (t : Bool). PlaceIf C n p (q .0) t (placeOf (q .1))) e (breaks-place C n p (q .0) (q .1) h .1) in
+          let s = breaks-second C n p (q .0) (q .1) h ∙ ap (secondAt (p .head)) (z .0) in
+          (q .0, m .whole (q .0) (breaks-item C n p (q .0) (q .1) h) (z .1), ap (λ (t : Second). (q .0, t)) s)

@@ -1,78 +1,40 @@
--- `rule::findings::count` meets its contract. The loop's invariant: the findings in the rows passed are counted. Assumes nothing.
-use Prim.Native.Nat.{_*_, _≤_, _-_}
-use native.Mathlib.Omega.{arith}
+-- `rule::findings::count` meets its contract, by whether the rule is broken by pairs. Assumes nothing.
+use mathlib.Core.Path.{_∙_, sym}
 use borrow.Author.Needs.{needs}
-use Rattle.logic.specs.Number.{Number}
-use Rattle.row.specs.Pick.{room}
 use Rattle.closure.specs.Layout.{Holds}
-use Rattle.rule.specs.Cursor.{BrokenBelow}
-use Rattle.rule.specs.laws.Cursor.{count-none, count-more, count-all}
+use Rattle.rule.specs.laws.Cursor.{count-alone}
 use Rattle.rule.proofs.findings.count.Statement.{statement}
 use Rattle.rule.proofs.findings.count.Tie as tie
 
-abbrev Inv-loop : tie.InvT-loop
-Inv-loop words at counts plan n₀ x₀ n x = (x ≤ counts .items) × (n ≤ 64 * room * x) × Number (BrokenBelow (Holds (at .width) counts words) counts plan x) n
+is-pair-requires : tie.Need-is-pair-requires
+is-pair-requires c κs = search needs
 
-abbrev μ-loop : tie.MeasureT-loop
-μ-loop words at counts plan n₀ x₀ n x = counts .items - x
+count-rows-requires : tie.Need-count-rows-requires
+count-rows-requires c κs = search needs
 
-loop-holds : tie.Need-loop-holds Inv-loop μ-loop
-loop-holds c =
-    let start = c .before in
-    let n = start .args .counts in
-    let C = Holds (start .args .at .width) n (start .args .words .now) in
-    (omega arith, omega arith, count-none C n (start .args .plan))
+returns : tie.Need-returns
+returns c = search needs
 
-places-requires : tie.Need-places-requires Inv-loop μ-loop
-places-requires c κs = search needs
+alone-row-requires : tie.Need-alone-row-requires
+alone-row-requires c κs = search needs
 
-ones-requires : tie.Need-ones-requires Inv-loop μ-loop
+ones-requires : tie.Need-ones-requires
 ones-requires c κs = search needs
 
-add-n : tie.Need-add-n Inv-loop μ-loop
-add-n c =
-    let start = c .before .before .before .before .before .before in
+returns-2 : tie.Need-returns-2
+returns-2 c =
+    let start = c .before .before .before .before .before in
+    let at-is-pair = c .before .before .before in
     let n = start .args .counts in
-    let C = Holds (start .args .at .width) n (start .args .words .now) in
-    omega (arith, c .ones .ensures .1, c .before .before .before .before .loop .inv .1, start .pre .1 .fits .items, start .pre .0 .wide)
-
-add-x : tie.Need-add-x Inv-loop μ-loop
-add-x c =
-    let start = c .before .before .before .before .before .before in
-    let n = start .args .counts in
-    let C = Holds (start .args .at .width) n (start .args .words .now) in
-    omega (arith, start .pre .1 .fits .items, start .pre .0 .wide)
-
-loop-less : tie.Need-loop-less Inv-loop μ-loop
-loop-less c = omega arith
-
-loop-again : tie.Need-loop-again Inv-loop μ-loop
-loop-again c =
-    let start = c .before .before .before .before .before .before in
-    let n = start .args .counts in
-    let C = Holds (start .args .at .width) n (start .args .words .now) in
-    let at-loop = c .before .before .before .before in
-    let at-if1 = c .before .before in
-    (omega arith, omega (arith, c .ones .ensures .1, at-loop .loop .inv .1), count-more C n (start .args .plan) (at-loop .loop .inv .2) (at-if1 .if1 .taken) (c .before .places .ensures) (c .ones .ensures .0))
-
-returns : tie.Need-returns Inv-loop μ-loop
-returns c =
-    let start = c .before .before .before .before in
-    let n = start .args .counts in
-    let C = Holds (start .args .at .width) n (start .args .words .now) in
-    count-all C n (start .args .plan) (c .before .before .loop .inv .2) (c .if1 .left)
+    count-alone (Holds (start .args .at .width) n (start .args .words .now)) n (start .args .plan) (sym (at-is-pair .is-pair .ensures) ∙ c .before .before .if1 .left) (c .before .alone-row .ensures) (c .ones .ensures .0)
 
 pub count-spec : {M : Type 1} → statement M
 count-spec =
     tie.close
     (tie.spec
-    Inv-loop
-    μ-loop
-    loop-holds
-    places-requires
+    is-pair-requires
+    count-rows-requires
+    returns
+    alone-row-requires
     ones-requires
-    add-n
-    add-x
-    loop-less
-    loop-again
-    returns)
+    returns-2)
