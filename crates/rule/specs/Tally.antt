@@ -38,11 +38,15 @@ pub record Blank (t : List ℕ) : Type 0 where
   pub all : (x : ℕ) → x < 64 * room → TallyHas t 0 x
   pub none : (j x : ℕ) → ¬ (TallyHas t (suc j) x)
 
--- u is t, but each word from `from` up to `to` has taken on what the row before has at its place and the row r has too
-pub record Counted (from to : ℕ) (r t u : List ℕ) : Type 0 where
-  pub len : length u ≡ length t
-  pub words : (i : ℕ) → from ≤ i → i < to → getD u i 0 ≡ bitOr (getD t i 0) (bitAnd (getD t (i - room) 0) (getD r (i % room) 0))
-  pub below : (i : ℕ) → i < from → getD u i 0 ≡ getD t i 0
+-- a word at place i of the row that begins at `from`, with what the row before it, in s, and the row r have in common there
+unfoldable pub takenOn : List ℕ → List ℕ → ℕ → ℕ → ℕ → ℕ
+takenOn s r from i w = bitOr w (bitAnd (getD s (i - room) 0) (getD r (i - from) 0))
+
+-- each row above row j, up to row k, has taken on what the row before it and the row r have in common, in its first `width` words
+pub record Counted (j k width : ℕ) (r s t : List ℕ) : Type 0 where
+  pub len : length t ≡ length s
+  pub words : (i h : ℕ) → j < i → i ≤ k → h < width → getD t (room * i + h) 0 ≡ bitOr (getD s (room * i + h) 0) (bitAnd (getD s (room * i + h - room) 0) (getD r h 0))
+  pub below : (i : ℕ) → i < room * j + room → getD t i 0 ≡ getD s i 0
 
 -- of the items with the property P, whole articles are left
 pub record Leaves (C : Cell → Type 0) (n : Counts) (P Left : ℕ → Type 0) : Type 0 where
@@ -55,9 +59,9 @@ pub record Seen (C : Cell → Type 0) (r : ℕ) (P Left : ℕ → Type 0) (x b :
   pub has : P b
   pub gone : ¬ (Left b)
 
--- row j, for j up to k, has the items that j or more of the articles seen are linked to
-pub record Tallied (C : Cell → Type 0) (n : Counts) (r k : ℕ) (P Left : ℕ → Type 0) (t : List ℕ) : Type 0 where
+-- row j, for j up to k, has in its first `width` words the items that j or more of the articles seen are linked to
+pub record Tallied (C : Cell → Type 0) (n : Counts) (width r k : ℕ) (P Left : ℕ → Type 0) (t : List ℕ) : Type 0 where
   pub len : length t ≡ tallyRoom
   pub leaves : Leaves C n P Left
-  pub sound : (j x : ℕ) → j ≤ k → x < 64 * room → TallyHas t j x → Articles C n j (Seen C r P Left x)
+  pub sound : (j x : ℕ) → j ≤ k → x < 64 * width → TallyHas t j x → Articles C n j (Seen C r P Left x)
   pub whole : (j x : ℕ) → j ≤ k → DeclaredItem n x → Articles C n j (Seen C r P Left x) → TallyHas t j x

@@ -1,18 +1,23 @@
 ghost use mathlib.Core.Path.{_≡_};
 ghost use mathlib.Core.Bool.{Bool, true};
-ghost use Prim.Native.Nat.{_+_, _*_, _≤_, _<_};
+ghost use Prim.Native.Nat.{_+_, _≤_, _<_};
 ghost use lib.ListN.{length};
 ghost use Rattle.logic.specs.Decides.{Decides};
 ghost use Rattle.row.specs.Row.{RowHas};
+ghost use Rattle.row.specs.Change.{Mapped};
 ghost use Rattle.row.specs.Pick.{Marks, room};
 ghost use Rattle.closure.specs.Layout.{ClosedStore, Holds, Laid};
 ghost use Rattle.rule.specs.Meaning.{Articles, LinkedWay};
-ghost use Rattle.rule.specs.Tally.{Blank, Countable, Counted, most, tallyRoom};
+ghost use Rattle.rule.specs.Tally.{Blank, Countable, Counted, most, takenOn, tallyRoom};
 use crate::RoleUse;
+use crate::Rule;
 use closure::Counts;
 use closure::Layout;
 
-// Whether tallies count k articles of the role use: it is the inverse of a declared role, and k is from 1 to 8.
+// The word that has every bit.
+const FULL: u64 = 0xffff_ffff_ffff_ffff;
+
+// Whether tallies count k articles of the role use: it is the inverse of a declared role, and k is from 1 to the largest count.
 pub fn counts_for(counts: Counts, k: usize, u: RoleUse) -> bool
     ensures { λ r. ⌜ Decides r (Countable counts k u) ⌝ }
 {
@@ -27,7 +32,7 @@ pub fn counts_for(counts: Counts, k: usize, u: RoleUse) -> bool
     if k == 0 {
         return false;
     }
-    k <= 8
+    k <= Rule::COUNT
 }
 
 // The tallies before any article: row 0 has every number, the others none.
@@ -37,21 +42,34 @@ fn blank() -> [u64; 72]
     let mut t = [0u64; 72];
     let mut i = 0;
     while i < 8 {
-        t[i] = 18446744073709551615;
+        t[i] = FULL;
         i += 1;
     }
     t
 }
 
-// Each row of the tallies up to row k takes on what the row before it and the row r have in common, the highest first.
-fn count_row(t: &mut [u64; 72], r: &[u64; 8], k: usize)
-    requires { ⌜ (length (now t) ≡ tallyRoom) × (k ≤ most) ⌝ }
-    ensures { λ _. ⌜ Counted room (room * k + room) (now (r .entry)) (now (t .entry)) (now (t .exit)) ⌝ }
+// The row of the tallies at `from` takes on what the row before it and the row r have in common.
+fn take_on(t: &mut [u64; 72], r: &[u64; 8], from: usize, width: usize)
+    requires { ⌜ (length (now t) ≡ tallyRoom) × (room ≤ from) × (from + width ≤ tallyRoom) × (width ≤ room) ⌝ }
+    ensures { λ _. ⌜ Mapped (takenOn (now (t .entry)) (now (r .entry)) from) from (from + width) (now (t .entry)) (now (t .exit)) ⌝ }
 {
-    let mut i = 8 * k + 8;
-    while 8 < i {
-        i -= 1;
-        t[i] = t[i] | (t[i - 8] & r[i % 8]);
+    let mut h = 0;
+    while h < width {
+        let i = from + h;
+        t[i] = t[i] | (t[i - 8] & r[h]);
+        h += 1;
+    }
+}
+
+// Each row of the tallies up to row k takes on what the row before it and the row r have in common, the highest first.
+fn count_row(t: &mut [u64; 72], r: &[u64; 8], k: usize, width: usize)
+    requires { ⌜ (length (now t) ≡ tallyRoom) × (k ≤ most) × (width ≤ room) ⌝ }
+    ensures { λ _. ⌜ Counted 0 k width (now (r .entry)) (now (t .entry)) (now (t .exit)) ⌝ }
+{
+    let mut j = k;
+    while 0 < j {
+        take_on(t, r, 8 * j, width);
+        j -= 1;
     }
 }
 
@@ -73,10 +91,10 @@ pub fn tally(
     let mut b = row::pick::least(&left);
     while b < counts.items {
         let links = closure::look::join_links(words, at, counts, role, b, &none);
-        count_row(&mut t, &links, k);
+        count_row(&mut t, &links, k, at.width);
         let same = closure::look::same_row(words, at, counts, b);
         left = row::pick::without(&left, &same);
         b = row::pick::least(&left);
     }
-    row::copy::row_of(&t, 8 * k, 8)
+    row::copy::together(&t, 8 * k, at.width, &none)
 }

@@ -9,17 +9,17 @@ use native.Mathlib.Omega.{arith}
 use native.Mathlib.Decide.{ℕ-discrete, decLt}
 use lib.Bits.{bitOr, bitAnd}
 use lib.Pow.{pow-pos}
-use lib.ListN.{length, getD, set, length-set, replicate, length-replicate, getD-replicate, List·getD-eq-default}
-use lib.Seq.{getD-set-same, getD-set-other}
+use lib.ListN.{length, getD, set, replicate, length-replicate, getD-replicate, List·getD-eq-default}
 use Rattle.logic.specs.Number.{One}
 use Rattle.logic.specs.Number.One.{first, later}
 use Rattle.logic.specs.laws.Number.{one-cases, one-none}
 use Rattle.row.specs.Bit.{Has}
-use Rattle.row.specs.Row.{RowHas, Copied}
+use Rattle.row.specs.Row.{RowHas}
 use Rattle.row.specs.Change.{Mapped}
-use Rattle.row.specs.Pick.{Among, Empty, Least, Marks, Without, room}
+use Rattle.row.specs.Pick.{Among, Empty, Least, Marks, Together, Without, room}
 use Rattle.row.specs.laws.Bit.{and-has, and-left, and-right, at-place, half-has, has-or, moved, or-left, or-right, zero-none}
-use Rattle.row.specs.laws.Pick.{row-room}
+use Rattle.row.specs.laws.Mapped.{mapped-done, mapped-more}
+use Rattle.row.specs.laws.Together.{has-together, together-has}
 use Rattle.closure.specs.declared.Counts.{Counts}
 use Rattle.closure.specs.Cell.{Cell, Obeys, DeclaredItem}
 use Rattle.closure.specs.Cell.Cell.{Same, Link}
@@ -28,7 +28,7 @@ use Rattle.closure.specs.Look.{LinksJoined}
 use Rattle.closure.specs.laws.Cells.{holds?}
 use Rattle.rule.specs.Meaning.{Different, Articles, LinkedWay}
 use Rattle.rule.specs.Meaning.Different.{none, more}
-use Rattle.rule.specs.Tally.{Blank, Counted, Leaves, Seen, Tallied, TallyHas, tallyRoom}
+use Rattle.rule.specs.Tally.{Blank, Counted, Leaves, Seen, Tallied, TallyHas, takenOn, tallyRoom}
 use Rattle.rule.specs.laws.Articles.{fewer-articles}
 use Rattle.rule.specs.laws.Holding.{articles-iff}
 use Rattle.rule.specs.laws.Many.{some-item}
@@ -136,72 +136,60 @@ blank-mapped {t} m = record {
         go (yes l) = getD-replicate tallyRoom i 0 0 l
         go (no l) = List·getD-eq-default zeros 0 {n = i} (omega (arith, length-replicate {A = ℕ} tallyRoom 0))
 
--- before the first word
-pub counted-none : (to : ℕ) (r t : List ℕ) → Counted to to r t t
-counted-none to r t = record { len = refl; words = λ i h k. absurd (omega arith); below = λ i h. refl }
-
--- one word more, from the top down
-pub counted-more : {i to v : ℕ} {r s t : List ℕ} → Counted i to r s t → 0 < i → i ≤ length s
-    → v ≡ bitOr (getD t (i - 1) 0) (bitAnd (getD t (i - 1 - room) 0) (getD r ((i - 1) % room) 0)) → Counted (i - 1) to r s (set t (i - 1) v)
-counted-more {i} {to} {v} {r} {s} {t} c p l e = record {
-  len = length-set t (i - 1) v ∙ c .len;
-  words = λ j h k. go j h k (ℕ-discrete j (i - 1));
-  below = λ j h. getD-set-other t (i - 1) j v 0 (λ q. absurd (omega arith)) ∙ c .below j (omega arith);
-}
+-- one word more of a row
+pub taken-more : {from h : ℕ} {s t : List ℕ} (r : List ℕ) → Mapped (takenOn s r from) from (from + h) s t → room ≤ from → h < room → from + h < length s
+    → Mapped (takenOn s r from) from (from + (h + 1)) s (set t (from + h) (bitOr (getD t (from + h) 0) (bitAnd (getD t (from + h - room) 0) (getD r h 0))))
+unfolding takenOn
+taken-more {from} {h} {s} {t} r m l lh long = mapped-done (mapped-more m (omega arith) long word) (omega arith) (omega arith)
   where
-    taken : ℕ → List ℕ → ℕ
-    taken j q = bitOr (getD q j 0) (bitAnd (getD q (j - room) 0) (getD r (j % room) 0))
+    place : from + h - from ≡ h
+    place = omega arith
 
-    old : taken (i - 1) t ≡ taken (i - 1) s
-    old = rw (c .below (i - 1) (omega arith), c .below (i - 1 - room) (omega arith)) refl
+    word : bitOr (getD t (from + h) 0) (bitAnd (getD t (from + h - room) 0) (getD r h 0)) ≡ bitOr (getD t (from + h) 0) (bitAnd (getD s (from + h - room) 0) (getD r (from + h - from) 0))
+    word = rw (m .below (from + h - room) (omega arith), place) refl
 
-    go : (j : ℕ) → i - 1 ≤ j → j < to → Dec (j ≡ i - 1) → getD (set t (i - 1) v) j 0 ≡ taken j s
-    go j h k (yes q) = rw q (getD-set-same t (i - 1) v 0 (omega (arith, c .len)) ∙ e ∙ old)
-    go j h k (no q) = getD-set-other t (i - 1) j v 0 q ∙ c .words j (omega arith) k
+-- before the first row
+pub counted-none : (k width : ℕ) (r t : List ℕ) → Counted k k width r t t
+counted-none k width r t = record { len = refl; words = λ i h a b l. absurd (omega arith); below = λ i l. refl }
 
--- after the last word
-pub counted-done : {from i to : ℕ} {r s t : List ℕ} → Counted i to r s t → from ≤ i → i ≤ from → Counted from to r s t
-counted-done c h l = record { len = c .len; words = λ j hj lj. c .words j (omega arith) lj; below = λ j hj. c .below j (omega arith) }
+-- one row more, from the top down
+pub counted-more : {j k width : ℕ} {r s t u : List ℕ} → Counted j k width r s t → 0 < j → width ≤ room → Mapped (takenOn t r (room * j)) (room * j) (room * j + width) t u
+    → Counted (j - 1) k width r s u
+unfolding takenOn
+counted-more {j} {k} {width} {r} {s} {t} {u} c p wide m = record { len = m .len ∙ c .len; words = λ i h a b l. go i h a b l (ℕ-discrete i j); below = λ i l. m .below i (omega arith) ∙ c .below i (omega arith) }
+  where
+    go : (i h : ℕ) → j - 1 < i → i ≤ k → h < width → Dec (i ≡ j) → getD u (room * i + h) 0 ≡ bitOr (getD s (room * i + h) 0) (bitAnd (getD s (room * i + h - room) 0) (getD r h 0))
+    go i h a b l (yes q) =
+        let place : room * j + h - room * j ≡ h = omega arith in
+        rw q (m .inside (room * j + h) (omega arith) (omega arith) ∙ rw (c .below (room * j + h) (omega arith), c .below (room * j + h - room) (omega arith), place) refl)
+    go i h a b l (no q) = m .above (room * i + h) (omega arith) ∙ c .words i h (omega arith) b l
 
-module _ {to : ℕ} {r t u : List ℕ} (c : Counted room to r t u) where
+-- after the last row
+pub counted-done : {j k width : ℕ} {r s t : List ℕ} → Counted j k width r s t → j ≡ 0 → Counted 0 k width r s t
+counted-done {j} {k} {width} {r} {s} {t} c e = subst (λ (i : ℕ). Counted i k width r s t) e c
+
+module _ {k width : ℕ} {r t u : List ℕ} (c : Counted 0 k width r t u) (j x : ℕ) (l : suc j ≤ k) (lx : x < 64 * width) where
+  back : room * suc j + x / 64 - room ≡ room * j + x / 64
+  back = omega arith
+
   -- what a row has: what it had, or what the row before and r have
-  counted-has : (j x : ℕ) → room * suc j + room ≤ to → x < 64 * room → TallyHas u (suc j) x → TallyHas t (suc j) x ⊎ (TallyHas t j x × RowHas r x)
-  counted-has j x l lx h = ⊎-elim inl (λ z. inr (at-place t back (and-left _ _ _ z), at-place r column (and-right (getD t (i - room) 0) _ _ z))) (has-or (getD t i 0) _ _ (moved (c .words i (omega arith) (omega arith)) h))
-    where
-      i : ℕ
-      i = room * suc j + x / 64
+  counted-has : TallyHas u (suc j) x → TallyHas t (suc j) x ⊎ (TallyHas t j x × RowHas r x)
+  counted-has h =
+      ⊎-elim inl (λ z. inr (at-place t back (and-left _ _ _ z), and-right (getD t (room * suc j + x / 64 - room) 0) _ _ z))
+      (has-or (getD t (room * suc j + x / 64) 0) _ _ (moved (c .words (suc j) (x / 64) (omega arith) l (omega arith)) h))
 
-      back : i - room ≡ room * j + x / 64
-      back = omega arith
-
-      column : i % room ≡ x / 64
-      column = omega arith
-
-  has-counted : (j x : ℕ) → room * suc j + room ≤ to → x < 64 * room → TallyHas t (suc j) x ⊎ (TallyHas t j x × RowHas r x) → TallyHas u (suc j) x
-  has-counted j x l lx h =
-      moved (sym (c .words i (omega arith) (omega arith)))
-      (⊎-elim (or-left (getD t i 0) _ _) (λ z. or-right (getD t i 0) _ _ (and-has _ _ _ (at-place t (sym back) (z .0)) (at-place r (sym column) (z .1)))) h)
-    where
-      i : ℕ
-      i = room * suc j + x / 64
-
-      back : i - room ≡ room * j + x / 64
-      back = omega arith
-
-      column : i % room ≡ x / 64
-      column = omega arith
-
-  -- row 0 stays
-  counted-first : (x : ℕ) → x < 64 * room → TallyHas t 0 x → TallyHas u 0 x
-  counted-first x lx h = moved (sym (c .below (room * 0 + x / 64) (omega arith))) h
+  has-counted : TallyHas t (suc j) x ⊎ (TallyHas t j x × RowHas r x) → TallyHas u (suc j) x
+  has-counted h =
+      moved (sym (c .words (suc j) (x / 64) (omega arith) l (omega arith)))
+      (⊎-elim (or-left (getD t (room * suc j + x / 64) 0) _ _) (λ z. or-right (getD t (room * suc j + x / 64) 0) _ _ (and-has _ _ _ (at-place t (sym back) (z .0)) (z .1))) h)
 
 -- ---- the tallies of what was seen
 
 -- before the first article
-pub tallied-none : {C : Cell → Type 0} {n : Counts} {r k : ℕ} {P : ℕ → Type 0} {t : List ℕ} → n .items ≤ 64 * room → Blank t → Tallied C n r k P P t
-tallied-none {C} {n} {r} {k} {P} {t} small e = record { len = e .len; leaves = record { part = λ x lx h. h; whole = λ x y lx ly h p s. p }; sound = sound; whole = whole }
+pub tallied-none : {C : Cell → Type 0} {n : Counts} {width r k : ℕ} {P : ℕ → Type 0} {t : List ℕ} → n .items ≤ 64 * room → Blank t → Tallied C n width r k P P t
+tallied-none {C} {n} {width} {r} {k} {P} {t} small e = record { len = e .len; leaves = record { part = λ x lx h. h; whole = λ x y lx ly h p s. p }; sound = sound; whole = whole }
   where
-    sound : (j x : ℕ) → j ≤ k → x < 64 * room → TallyHas t j x → Articles C n j (Seen C r P P x)
+    sound : (j x : ℕ) → j ≤ k → x < 64 * width → TallyHas t j x → Articles C n j (Seen C r P P x)
     sound zero x l lx h = articles-none
     sound (suc j) x l lx h = absurd (e .none j x h)
 
@@ -236,9 +224,9 @@ module _ {W : ℕ} {n : Counts} {s : List ℕ} (closed : ClosedStore W n s) (wid
 
 module _ {W : ℕ} {n : Counts} {s : List ℕ} (closed : ClosedStore W n s) (wide : W ≤ widest) {P : ℕ → Type 0} {left : List ℕ} where
   -- an article more
-  pub tallied-more : {r k b : ℕ} {t u blank links same rest : List ℕ} → Tallied (Holds W n s) n r k P (RowHas left) t → Least left b → b < n .items → Empty blank
-      → LinksJoined (Holds W n s) n r b blank links → Counted room (room * k + room) links t u → Among (n .items) same (λ x. Holds W n s (Same b x)) → Without left same rest
-      → Tallied (Holds W n s) n r k P (RowHas rest) u
+  pub tallied-more : {r k b : ℕ} {t u blank links same rest : List ℕ} → Tallied (Holds W n s) n W r k P (RowHas left) t → Least left b → b < n .items → Empty blank
+      → LinksJoined (Holds W n s) n r b blank links → Counted 0 k W links t u → Among (n .items) same (λ x. Holds W n s (Same b x)) → Without left same rest
+      → Tallied (Holds W n s) n W r k P (RowHas rest) u
   tallied-more {r} {k} {b} {t} {u} {blank} {links} {same} {rest} m d l e q c a w = record { len = c .len ∙ m .len; leaves = rest-leaves o (m .leaves) f; sound = sound; whole = whole }
     where
       C : Cell → Type 0
@@ -253,42 +241,39 @@ module _ {W : ℕ} {n : Counts} {s : List ℕ} (closed : ClosedStore W n s) (wid
       linked : (x : ℕ) → RowHas links x → C (Link r b x)
       linked x h = ⊎-elim (λ z. absurd (e .none x z)) (λ z. z) (q .sound x h)
 
-      sound : (j x : ℕ) → j ≤ k → x < 64 * room → TallyHas u j x → Articles C n j (Seen C r P (RowHas rest) x)
+      sound : (j x : ℕ) → j ≤ k → x < 64 * W → TallyHas u j x → Articles C n j (Seen C r P (RowHas rest) x)
       sound zero x lj lx h = articles-none
       sound (suc j) x lj lx h =
           ⊎-elim (λ z. articles-iff (seen-still o (m .leaves) f) (m .sound (suc j) x lj lx z)) (λ z. seen-more o (m .leaves) f (linked x (z .1)) (m .sound j x (omega arith) lx (z .0)))
-          (counted-has c j x (omega arith) lx h)
+          (counted-has c j x lj lx h)
 
       whole : (j x : ℕ) → j ≤ k → DeclaredItem n x → Articles C n j (Seen C r P (RowHas rest) x) → TallyHas u j x
-      whole zero x lj lx z = counted-first c x (omega (arith, closed .fits .items)) (m .whole 0 x (omega arith) lx articles-none)
-      whole (suc j) x lj lx z = has-counted c j x (omega arith) (omega (arith, closed .fits .items)) (go (holds? W n s (Link r b x)))
+      whole zero x lj lx z = moved (sym (c .below (room * 0 + x / 64) (omega (arith, closed .fits .items)))) (m .whole 0 x lj lx articles-none)
+      whole (suc j) x lj lx z = has-counted c j x lj (omega (arith, closed .fits .items)) (go (holds? W n s (Link r b x)))
         where
           go : Dec (C (Link r b x)) → TallyHas t (suc j) x ⊎ (TallyHas t j x × RowHas links x)
           go (yes h) = inr (m .whole j x (omega arith) lx (seen-less o (m .leaves) f (holds? W n s) z), q .links x h)
           go (no h) = inl (m .whole (suc j) x lj lx (seen-same o (m .leaves) f lx h z))
 
   -- after the last article, row k
-  pub tallied-row : {r k b : ℕ} {t v : List ℕ} → Tallied (Holds W n s) n r k P (RowHas left) t → Least left b → n .items ≤ b → 1 ≤ k → Copied t (room * k) room room v
+  pub tallied-row : {r k b : ℕ} {t v blank : List ℕ} → Tallied (Holds W n s) n W r k P (RowHas left) t → Least left b → n .items ≤ b → 1 ≤ k → Empty blank → Together t (room * k) W blank v
       → Marks (n .items) v (λ x. Articles (Holds W n s) n k (λ y. LinkedWay (Holds W n s) true r x y × P y))
-  tallied-row {r} {k} {b} {t} {v} m d l some c = record { sound = sound; whole = whole }
+  tallied-row {r} {k} {b} {t} {v} {blank} m d l some e c = record { sound = sound; whole = whole }
     where
       C : Cell → Type 0
       C = Holds W n s
 
-      linked : {x : ℕ} → Articles C n k (Seen C r P (RowHas left) x) → DeclaredItem n x
-      linked {x} a = some-linked k some a
-        where
-          some-linked : (j : ℕ) → 1 ≤ j → Articles C n j (Seen C r P (RowHas left) x) → DeclaredItem n x
-          some-linked zero h z = absurd (omega arith)
-          some-linked (suc j) h z = some-item z .2 .link .within .2
+      linked : (j x : ℕ) → 1 ≤ j → Articles C n j (Seen C r P (RowHas left) x) → DeclaredItem n x
+      linked zero x h a = absurd (omega arith)
+      linked (suc j) x h a = some-item a .2 .link .within .2
 
       sound : (x : ℕ) → RowHas v x → DeclaredItem n x × Articles C n k (λ y. C (Link r y x) × P y)
       sound x h =
-          let lx : x / 64 < room = row-room v (c .len) x h in
-          let a = m .sound k x (omega arith) (omega arith) (moved (c .words (x / 64) lx) h) in
-          (linked a, articles-iff (λ y ly z. (z .link, z .has)) a)
+          let z = together-has c x h in
+          let a = m .sound k x (omega arith) (z .0) (⊎-elim (λ y. absurd (e .none x y)) (λ y. y) (z .1)) in
+          (linked k x some a, articles-iff (λ y ly q. (q .link, q .has)) a)
 
       whole : (x : ℕ) → x < n .items → Articles C n k (λ y. C (Link r y x) × P y) → RowHas v x
       whole x lx a =
-          moved (sym (c .words (x / 64) (omega (arith, closed .fits .items))))
-          (m .whole k x (omega arith) lx (articles-iff (λ y ly z. record { link = z .0; has = z .1; gone = λ w. d .least y (omega arith) w }) a))
+          has-together c x (omega (arith, closed .fits .items))
+          (inr (m .whole k x (omega arith) lx (articles-iff (λ y ly z. record { link = z .0; has = z .1; gone = λ q. d .least y (omega arith) q }) a)))

@@ -11,7 +11,7 @@ use Rattle.rule.proofs.tally.tally.Statement.{statement}
 use Rattle.rule.proofs.tally.tally.Tie as tie
 
 abbrev Inv-loop : tie.InvT-loop
-Inv-loop words at counts k role p none t₀ left₀ b₀ t left b = Least left b × Tallied (Holds (at .width) counts words) counts role k (RowHas p) (RowHas left) t
+Inv-loop words at counts k role p none t₀ left₀ b₀ t left b = Least left b × Tallied (Holds (at .width) counts words) counts (at .width) role k (RowHas p) (RowHas left) t
 
 abbrev μ-loop : tie.MeasureT-loop
 μ-loop words at counts k role p none t₀ left₀ b₀ t left b = counts .items - b
@@ -59,20 +59,20 @@ loop-again c =
           (c .before .before .before .before .before .before .count-row .ensures) (c .before .before .before .before .before .same-row .ensures) (c .before .before .without .ensures),
     )
 
-slice-aggregate-row-of : tie.Need-slice-aggregate-row-of Inv-loop μ-loop
-slice-aggregate-row-of c = omega arith
+slice-aggregate-together : tie.Need-slice-aggregate-together Inv-loop μ-loop
+slice-aggregate-together c = omega arith
 
-mul-row-of : tie.Need-mul-row-of Inv-loop μ-loop
-mul-row-of c = omega arith
+mul-together : tie.Need-mul-together Inv-loop μ-loop
+mul-together c = omega arith
 
-row-of-requires : tie.Need-row-of-requires Inv-loop μ-loop
-row-of-requires c κs = search needs
+together-requires : tie.Need-together-requires Inv-loop μ-loop
+together-requires c κs = search needs
 
 returns : tie.Need-returns Inv-loop μ-loop
 returns c =
-    let start = c .before .before .before .before .before .before .before .before .before .before .before in
-    let at-loop = c .before .before .before .before in
-    tallied-row (start .pre .1) (start .pre .0 .wide) (at-loop .loop .inv .1) (at-loop .loop .inv .0) (c .before .before .if1 .left) (start .pre .3) (c .row-of .ensures)
+    let start = c .before .before .before .before .before .before .before .before .before .before .before .before in
+    let at-loop = c .before .before .before .before .before in
+    tallied-row (start .pre .1) (start .pre .0 .wide) (at-loop .loop .inv .1) (at-loop .loop .inv .0) (c .before .before .before .if1 .left) (start .pre .3) (c .before .before .before .before .before .before .before .before .before .before .empty .ensures) (c .together .ensures)
 
 pub tally-spec : {M : Type 1} → statement M
 tally-spec =
@@ -91,7 +91,7 @@ tally-spec =
     least-requires-2
     loop-less
     loop-again
-    slice-aggregate-row-of
-    mul-row-of
-    row-of-requires
+    slice-aggregate-together
+    mul-together
+    together-requires
     returns)
