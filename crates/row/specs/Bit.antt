@@ -2,7 +2,7 @@
 use mathlib.Core.Path.{_≡_}
 use mathlib.Core.Bool.{Bool}
 use mathlib.Core.List.{List, [], _∷_}
-use Prim.Native.Nat.{ℕ, _+_, _/_, _%_, _^_, _<_}
+use Prim.Native.Nat.{ℕ, _+_, _-_, _/_, _%_, _^_, _<_, min}
 use lib.Count.{ones}
 use lib.Dec.{eqb}
 use lib.ListN.{getD}
@@ -14,6 +14,10 @@ pub record Has (n k : ℕ) : Type 0 where
 -- the same as a test
 abbrev pub hasb : ℕ → ℕ → Bool
 hasb w k = eqb (w / 2 ^ k % 2) 1
+
+-- the word of 64 bits whose bits below n are set, and no other
+unfoldable pub lowBits : ℕ → ℕ
+lowBits n = 2 ^ min n 64 - 1
 
 -- how many bits of the words are set
 abbrev pub total : List ℕ → ℕ

@@ -3,10 +3,12 @@ use mathlib.Core.Path.{_≡_}
 use mathlib.Core.Logic.{_⊎_}
 use mathlib.Core.Bool.{Bool, true}
 use mathlib.Core.List.{List}
-use Prim.Native.Nat.{ℕ, _+_, _*_, _≤_, _<_}
+use Prim.Native.Nat.{ℕ, _+_, _*_, _/_, _%_, _≤_, _<_}
 use lib.Bits.{bitOr}
 use lib.ListN.{length, getD}
+use Rattle.row.specs.Bit.{Has}
 use Rattle.row.specs.Row.{RowHas}
+use Rattle.row.specs.Change.{gathered}
 
 -- how many words a row has that stands alone
 abbrev pub room : ℕ
@@ -46,6 +48,24 @@ pub record Together (s : List ℕ) (from width : ℕ) (r t : List ℕ) : Type 0 
   pub len : length t ≡ room
   pub words : (h : ℕ) → h < width → getD t h 0 ≡ bitOr (getD r h 0) (getD s (from + h) 0)
   pub rest : (h : ℕ) → width ≤ h → getD t h 0 ≡ 0
+
+-- t, a row that stands alone, has in its first h words bit k of the words of s from `from` on, `step` words apart, and no other bit
+pub record Column (s : List ℕ) (from step k h : ℕ) (t : List ℕ) : Type 0 where
+  pub len : length t ≡ room
+  pub words : (g : ℕ) → g < h → getD t g 0 ≡ gathered s (from + g * (64 * step)) step k 64
+  pub rest : (g : ℕ) → h ≤ g → getD t g 0 ≡ 0
+
+-- the row of s at `from` and the row p have a number in common
+pub record Shared (s : List ℕ) (from width : ℕ) (p : List ℕ) : Type 0 where
+  pub number : ℕ
+  pub inside : number < 64 * width
+  pub here : Has (getD s (from + number / 64) 0) (number % 64)
+  pub there : RowHas p number
+
+-- the row has all the numbers below n and no other
+pub record AllBelow (n : ℕ) (r : List ℕ) : Type 0 where
+  pub has : (x : ℕ) → x < n → RowHas r x
+  pub only : (x : ℕ) → RowHas r x → x < n
 
 -- the row r marks exactly the numbers below n that have the property P
 pub record Marks (n : ℕ) (r : List ℕ) (P : ℕ → Type 0) : Type 0 where

@@ -13,3 +13,5 @@ pub mod Below
 pub mod Pick
 pub mod Marks
 pub mod Together
+pub mod Shared
+pub mod Column

@@ -3,7 +3,7 @@ ghost use mathlib.Core.Bool.{_&&_, _||_};
 ghost use Prim.Native.Nat.{_^_, _≤_, _<_};
 ghost use lib.ListN.{length};
 ghost use Rattle.row.specs.Change.{grown, orIf};
-ghost use Rattle.row.specs.Bit.{hasb, total};
+ghost use Rattle.row.specs.Bit.{hasb, lowBits, total};
 
 // Whether bit k of w is set.
 pub fn has_bit(w: u64, k: u64) -> bool
@@ -19,6 +19,16 @@ pub fn one_bit(n: u64) -> u64
     ensures { λ r. ⌜ r ≡ 2 ^ n ⌝ }
 {
     1 << n
+}
+
+// The bits below n, all of them if n is 64 or more.
+pub fn low_bits(n: usize) -> u64
+    ensures { λ r. ⌜ r ≡ lowBits n ⌝ }
+{
+    if n >= 64 {
+        return u64::MAX;
+    }
+    one_bit(n as u64) - 1
 }
 
 // w with the bits of v, if `on`.

@@ -1,8 +1,8 @@
 ghost use mathlib.Core.Path.{_≡_};
-ghost use Prim.Native.Nat.{_*_, _<_};
+ghost use Prim.Native.Nat.{_+_, _*_, _≤_, _<_};
 ghost use lib.ListN.{length};
 ghost use Rattle.logic.specs.Decides.{Decides};
-ghost use Rattle.row.specs.Pick.{Empty, Least, Marked, Met, Without, room};
+ghost use Rattle.row.specs.Pick.{AllBelow, Empty, Least, Marked, Met, Shared, Without, room};
 ghost use Rattle.row.specs.Row.{RowHas};
 
 // A row with no number.
@@ -10,6 +10,22 @@ pub fn empty() -> [u64; 8]
     ensures { λ r. ⌜ Empty r ⌝ }
 {
     [0u64; 8]
+}
+
+// The row of all numbers below n.
+pub fn below(n: usize) -> [u64; 8]
+    requires { ⌜ n ≤ 64 * room ⌝ }
+    ensures { λ r. ⌜ AllBelow n r ⌝ }
+{
+    let mut r = [0u64; 8];
+    let mut left = n;
+    let mut h = 0;
+    while h < 8 {
+        r[h] = crate::bit::low_bits(left);
+        left = crate::below::after_word(left);
+        h += 1;
+    }
+    r
 }
 
 // Whether x is in the row.
@@ -54,6 +70,22 @@ pub fn without(a: &[u64; 8], b: &[u64; 8]) -> [u64; 8]
         h += 1;
     }
     r
+}
+
+// Whether the row of `width` words at `from` and the row p have a number in common.
+pub fn shares(s: &[u64], from: usize, width: usize, p: &[u64; 8]) -> bool
+    requires { ⌜ (from + width ≤ length (now s)) × (width ≤ room) ⌝ }
+    ensures { λ b. ⌜ Decides b (Shared (now (s .entry)) from width (now (p .entry))) ⌝ }
+{
+    let mut h = 0;
+    while h < width {
+        let both = s[from + h] & p[h];
+        if both != 0 {
+            return true;
+        }
+        h += 1;
+    }
+    false
 }
 
 // The least number of the row; if it has none, the number of its bits.

@@ -3,7 +3,7 @@ use mathlib.Core.Path.{_≡_, refl, sym, ap, ap₂, _∙_, subst}
 use mathlib.Core.Logic.{_⊎_, inl, inr, ⊎-elim}
 use mathlib.Core.Bool.{true, false}
 use mathlib.Core.List.{List}
-use Prim.Native.Nat.{ℕ, zero, suc, _+_, _*_, _/_, _%_, _^_, _≤_, _<_, min, max}
+use Prim.Native.Nat.{ℕ, zero, suc, _+_, _-_, _*_, _/_, _%_, _^_, _≤_, _<_, min, max}
 use native.Mathlib.Nat.{mod-lt, zero-lt-suc, div-add-mod', zero-max, pow-suc, add-comm, div-eq-of-lt, div-one, lt-of-lt-of-le, lt-of-le-of-lt, mul-div-cancel, zero-div, mul-mod-left, div-self}
 use native.Mathlib.Omega.{arith}
 use native.Mathlib.Decide.{ℕ-discrete, decLt}
@@ -14,7 +14,7 @@ use lib.Pow.{pow-pos, pow-mono, shr-shr, shr-lt, shr-le, split}
 use lib.Bits.{and-le-l, bitOr, bitAnd, or-step, and-step, or-shr, and-shr}
 use lib.Count.{ones, ones-step}
 use lib.ListN.{getD}
-use Rattle.row.specs.Bit.{Has, hasb}
+use Rattle.row.specs.Bit.{Has, hasb, lowBits}
 
 two-pos : zero < 2
 two-pos = zero-lt-suc 1
@@ -232,3 +232,34 @@ lt-two-pow (suc a) = omega (arith, lt-two-pow a, pow-suc 2 a)
 -- | counts at least what either has
 pub ones-or-le : (a b : ℕ) → ones a ≤ ones (bitOr a b)
 ones-or-le a b = ones-part a a (bitOr a b) (lt-two-pow a) (λ k l x. or-left a b k x)
+
+-- ---- the bits below n
+
+full-has : (n k : ℕ) → k < n → Has (2 ^ n - 1) k
+full-has zero k l = absurd (omega arith)
+full-has (suc n) zero l = record { bit = ap (λ (x : ℕ). x % 2) (div-one (2 ^ suc n - 1)) ∙ omega (arith, pow-suc 2 n, pow-pos n) }
+full-has (suc n) (suc k) l =
+    let e : 2 ^ n - 1 ≡ (2 ^ suc n - 1) / 2 = omega (arith, pow-suc 2 n, pow-pos n) in
+    half-has (2 ^ suc n - 1) k (moved e (full-has n k (omega arith)))
+
+-- they are set
+pub low-has : (n k : ℕ) → k < n → k < 64 → Has (lowBits n) k
+unfolding lowBits
+low-has n k l h = full-has (min n 64) k (omega arith)
+
+-- and no other
+pub has-low : (n k : ℕ) → Has (lowBits n) k → k < n
+unfolding lowBits
+has-low n k h =
+    let l : 2 ^ min n 64 - 1 < 2 ^ min n 64 = omega (arith, pow-pos (min n 64)) in
+    omega (arith, has-lt (min n 64) l h)
+
+-- a word with all its bits
+pub low-all : (n : ℕ) → 64 ≤ n → 2 ^ 64 - 1 ≡ lowBits n
+unfolding lowBits
+low-all n l = let e : 64 ≡ min n 64 = omega arith in ap (λ (k : ℕ). 2 ^ k - 1) e
+
+-- and one with fewer
+pub low-some : (n : ℕ) → n < 64 → 2 ^ n - 1 ≡ lowBits n
+unfolding lowBits
+low-some n l = let e : n ≡ min n 64 = omega arith in ap (λ (k : ℕ). 2 ^ k - 1) e

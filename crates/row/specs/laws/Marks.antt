@@ -3,13 +3,13 @@ use mathlib.Core.Path.{_≡_, refl, sym, subst}
 use mathlib.Core.Logic.{_⊎_, inl, inr}
 use mathlib.Core.Bool.{Bool, true, false}
 use mathlib.Core.List.{List}
-use Prim.Native.Nat.{ℕ, _+_, _≤_, _<_}
+use Prim.Native.Nat.{ℕ, _+_, _*_, _≤_, _<_}
 use native.Mathlib.Omega.{arith}
 use native.Mathlib.Decide.{ℕ-discrete}
 use Rattle.logic.specs.Decides.{Decides}
 use Rattle.logic.specs.laws.Decides.{decides-iff}
 use Rattle.row.specs.Row.{RowHas}
-use Rattle.row.specs.Pick.{Among, Empty, Marked, Marks}
+use Rattle.row.specs.Pick.{AllBelow, Among, Empty, Marked, Marks, Met, Without, room}
 
 -- an empty row marks all that there is below 0
 pub marks-none : {r : List ℕ} {P : ℕ → Type 0} → Empty r → Marks 0 r P
@@ -42,6 +42,29 @@ marks-iff f g m = record { sound = λ x h. let p = m .sound x h in (p .0, f x (p
 -- a row that marks, among the numbers below n
 pub marks-among : {n : ℕ} {r : List ℕ} {P : ℕ → Type 0} → Marks n r P → Among n r P
 marks-among m = record { sound = λ x l h. m .sound x h .1; whole = m .whole }
+
+-- an empty row marks what has the property P, where no number below n has it
+pub marks-never : {n : ℕ} {r : List ℕ} {P : ℕ → Type 0} → Empty r → ((x : ℕ) → x < n → ¬ (P x)) → Marks n r P
+marks-never e f = record { sound = λ x h. absurd (e .none x h); whole = λ x l p. absurd (f x l p) }
+
+-- the row of all numbers below n marks what has the property P, where all of them have it
+pub marks-ever : {n : ℕ} {r : List ℕ} {P : ℕ → Type 0} → AllBelow n r → ((x : ℕ) → x < n → P x) → Marks n r P
+marks-ever a f = record { sound = λ x h. let l = a .only x h in (l, f x l); whole = λ x l p. a .has x l }
+
+-- the numbers below n that a row has not
+pub marks-without : {n : ℕ} {all p r : List ℕ} → n ≤ 64 * room → AllBelow n all → Without all p r → Marks n r (λ x. ¬ (RowHas p x))
+marks-without small a w = record { sound = λ x h. (a .only x (w .left x h), w .right x h); whole = λ x l p. w .has x (omega arith) (a .has x l) p }
+
+-- what two rows have
+pub among-met : {n : ℕ} {p q r : List ℕ} → n ≤ 64 * room → Met p q r → Among n r (λ x. RowHas p x × RowHas q x)
+among-met small m = record { sound = λ x l h. (m .left x h, m .right x h); whole = λ x l h. m .has x (omega arith) (h .0) (h .1) }
+
+-- a row without its numbers from n on
+pub marks-cut : {n : ℕ} {all s r : List ℕ} {P : ℕ → Type 0} → n ≤ 64 * room → AllBelow n all → Among n s P → Met all s r → Marks n r P
+marks-cut small a f m = record {
+  sound = λ x h. let l = a .only x (m .left x h) in (l, f .sound x l (m .right x h));
+  whole = λ x l p. m .has x (omega arith) (a .has x l) (f .whole x l p);
+}
 
 -- a number of a row that marks what has the property P
 pub decides-marked : {n x : ℕ} {b : Bool} {r : List ℕ} {P : ℕ → Type 0} → Marks n r P → x < n → Decides b (RowHas r x) → Decides b (P x)

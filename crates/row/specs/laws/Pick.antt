@@ -3,7 +3,7 @@ use mathlib.Core.Path.{_≡_, refl, sym, ap, _∙_, ap₂}
 use mathlib.Core.Logic.{_⊎_, inl, inr, ⊎-elim}
 use mathlib.Core.Bool.{Bool, true}
 use mathlib.Core.List.{List}
-use Prim.Native.Nat.{ℕ, zero, suc, _+_, _*_, _/_, _%_, _^_, _≤_, _<_}
+use Prim.Native.Nat.{ℕ, zero, suc, _+_, _-_, _*_, _/_, _%_, _^_, _≤_, _<_}
 use native.Mathlib.Nat.{mod-lt, div-one}
 use native.Mathlib.Omega.{arith}
 use native.Mathlib.Decide.{ℕ-discrete, decLt}
@@ -13,11 +13,11 @@ use lib.Count.{trailingZeros, under}
 use lib.ListN.{length, getD, set, length-set, List·getD-eq-default, replicate, length-replicate, getD-replicate}
 use lib.Seq.{getD-set-same, getD-set-other}
 use Rattle.logic.specs.Decides.{Decides}
-use Rattle.row.specs.Bit.{Has, hasb}
+use Rattle.row.specs.Bit.{Has, hasb, lowBits}
 use Rattle.row.specs.Row.{RowHas}
 use Rattle.row.specs.Change.{orIf}
-use Rattle.row.specs.Pick.{Marked, Met, Without, room, Least, Empty}
-use Rattle.row.specs.laws.Bit.{has?, moved, at-place, zero-none, half-has, and-has, and-left, and-right, has-pow, pow-has, at-bit, has-half, hasb-has, hasb-not}
+use Rattle.row.specs.Pick.{AllBelow, Marked, Met, Without, room, Least, Empty}
+use Rattle.row.specs.laws.Bit.{has?, moved, at-place, zero-none, half-has, and-has, and-left, and-right, has-pow, pow-has, at-bit, has-half, hasb-has, hasb-not, low-has, has-low}
 use Rattle.row.specs.laws.Rows.{orIf-has, orIf-keeps, orIf-gets}
 
 -- ---- a bit set
@@ -134,6 +134,32 @@ zipped-without {s} {t} z l = record {
   has = λ x lx h k. word-zipped z l x lx (less-has (getD s (x / 64) 0) (getD t (x / 64) 0) _ h k);
   left = λ x h. has-less (getD s (x / 64) 0) (getD t (x / 64) 0) _ (zipped-word z l x h) .0;
   right = λ x h. has-less (getD s (x / 64) 0) (getD t (x / 64) 0) _ (zipped-word z l x h) .1;
+}
+
+-- ---- all numbers below n
+
+-- the first h words of r have the bits of the numbers below n
+pub record Lows (n h : ℕ) (r : List ℕ) : Type 0 where
+  pub len : length r ≡ room
+  pub words : (j : ℕ) → j < h → getD r j 0 ≡ lowBits (n - j * 64)
+
+-- before the first word
+pub lows-none : (n : ℕ) (r : List ℕ) → length r ≡ room → Lows n 0 r
+lows-none n r e = record { len = e; words = λ j l. absurd (omega arith) }
+
+-- one word more
+pub lows-more : {n h v left : ℕ} {r : List ℕ} → Lows n h r → h < room → left ≡ n - h * 64 → v ≡ lowBits left → Lows n (h + 1) (set r h v)
+lows-more {n} {h} {v} {left} {r} z l q e = record { len = length-set r h v ∙ z .len; words = λ j lj. go j lj (ℕ-discrete j h) }
+  where
+    go : (j : ℕ) → j < h + 1 → Dec (j ≡ h) → getD (set r h v) j 0 ≡ lowBits (n - j * 64)
+    go j lj (yes p) = rw p (getD-set-same r h v 0 (omega (arith, z .len)) ∙ e ∙ ap lowBits q)
+    go j lj (no p) = getD-set-other r h j v 0 p ∙ z .words j (omega arith)
+
+-- after the last word
+pub lows-done : {n h : ℕ} {r : List ℕ} → Lows n h r → room ≤ h → n ≤ 64 * room → AllBelow n r
+lows-done {n} {r = r} z l small = record {
+  has = λ x lx. moved (sym (z .words (x / 64) (omega arith))) (low-has (n - x / 64 * 64) (x % 64) (omega arith) (omega arith));
+  only = λ x h. omega (arith, has-low (n - x / 64 * 64) (x % 64) (moved (z .words (x / 64) (omega (arith, row-room r (z .len) x h))) h));
 }
 
 -- ---- the lowest bit

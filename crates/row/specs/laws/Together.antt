@@ -1,6 +1,6 @@
 -- Laws of a row that takes on a row of the list of words. Assumes nothing.
 use mathlib.Core.Path.{_≡_, refl, sym, _∙_}
-use mathlib.Core.Logic.{_⊎_, ⊎-elim}
+use mathlib.Core.Logic.{_⊎_, inl, inr, ⊎-elim}
 use mathlib.Core.List.{List}
 use Prim.Native.Nat.{ℕ, _+_, _*_, _/_, _%_, _≤_, _<_}
 use native.Mathlib.Omega.{arith}
@@ -11,7 +11,9 @@ use lib.Seq.{getD-set-same, getD-set-other}
 use Rattle.row.specs.Bit.{Has}
 use Rattle.row.specs.Row.{RowHas}
 use Rattle.row.specs.Pick.{room, Together}
+use Rattle.row.specs.Change.{TakenOn, takeOn}
 use Rattle.row.specs.laws.Bit.{moved, zero-none, has-or, or-left, or-right}
+use Rattle.row.specs.laws.Mapped.{mapped-part}
 
 zeros : List ℕ
 zeros = replicate room 0
@@ -56,3 +58,30 @@ together-has {s} {r} {t} {from} {width} g x h = go (decLt (x / 64) width)
 -- and the other way
 pub has-together : {s r t : List ℕ} {from width : ℕ} → Together s from width r t → (x : ℕ) → x < 64 * width → RowHas r x ⊎ Has (getD s (from + x / 64) 0) (x % 64) → RowHas t x
 has-together {s} {r} {t} {from} {width} g x l d = moved (sym (g .words (x / 64) (omega arith))) (⊎-elim (or-left (getD r (x / 64) 0) _ _) (or-right (getD r (x / 64) 0) _ _) d)
+
+-- ---- a row that takes on another in place
+
+-- the word that takes on another
+pub take-on : (s : List ℕ) (from i w : ℕ) → bitOr w (getD s (from + i) 0) ≡ takeOn s from i w
+unfolding takeOn
+take-on s from i w = refl
+
+module _ {s p t : List ℕ} {from width : ℕ} (d : TakenOn s from width p t) where
+  -- its bits
+  pub taken-has : (x : ℕ) → RowHas t x → RowHas p x ⊎ ((x < 64 * width) × Has (getD s (from + x / 64) 0) (x % 64))
+  unfolding takeOn
+  taken-has x h = go (decLt (x / 64) width)
+    where
+      go : Dec (x / 64 < width) → RowHas p x ⊎ ((x < 64 * width) × Has (getD s (from + x / 64) 0) (x % 64))
+      go (yes l) = ⊎-elim inl (λ z. inr (omega arith, z)) (has-or _ _ _ (moved (d .mapped .inside (x / 64) (omega arith) l) h))
+      go (no l) = inl (moved (d .mapped .above (x / 64) (omega arith)) h)
+
+  -- what it had
+  pub taken-keeps : (x : ℕ) → RowHas p x → RowHas t x
+  unfolding takeOn
+  taken-keeps x h = mapped-part (d .mapped) (λ i w k z. or-left w (getD s (from + i) 0) k z) (x / 64) (x % 64) h
+
+  -- what it gets
+  pub taken-gets : (x : ℕ) → x < 64 * width → Has (getD s (from + x / 64) 0) (x % 64) → RowHas t x
+  unfolding takeOn
+  taken-gets x l h = moved (sym (d .mapped .inside (x / 64) (omega arith) (omega arith))) (or-right (getD p (x / 64) 0) _ _ h)
