@@ -1,11 +1,12 @@
 ghost use mathlib.Core.Path.{_≡_};
 ghost use Prim.Native.Nat.{_+_, _*_, _≤_, _<_};
+ghost use lib.ListN.{length};
 ghost use Rattle.logic.specs.Decides.{Decides};
-ghost use Rattle.row.specs.Pick.{Among, Marks};
+ghost use Rattle.row.specs.Pick.{Among, Marks, room};
 ghost use Rattle.closure.specs.Cell.{cellOf};
 ghost use Rattle.closure.specs.Cell.Cell.{Same, Under, RoleUnder, In, Link};
 ghost use Rattle.closure.specs.Layout.{ClosedStore, Holds, Laid, itemLimit, linkAt, roleLimit, widest};
-ghost use Rattle.closure.specs.Look.{LinksJoined};
+ghost use Rattle.closure.specs.Look.{LinksJoined, LinksMeet};
 use crate::Counts;
 use crate::Layout;
 use crate::Statement;
@@ -141,19 +142,45 @@ pub fn join_links(
     row::copy::together(words, from, at.width, p)
 }
 
+// The row t takes on the items that the role r links a to.
+pub fn add_links(words: &[u64], at: Layout, counts: Counts, r: usize, a: usize, t: &mut [u64; 8])
+    requires { ⌜ Laid at (now words) × ClosedStore (at .width) counts (now words) × (r < counts .roles) × (a < counts .items) × (length (now t) ≡ room) ⌝ }
+    ensures { λ _. ⌜ (length (now (t .exit)) ≡ room) × LinksJoined (Holds (at .width) counts (now (words .entry))) counts r a (now (t .entry)) (now (t .exit)) ⌝ }
+{
+    let from = link_row(at, r, a);
+    row::change::take_on(t, words, from, at.width);
+}
+
+// Whether the role r links a to an item of the row p.
+pub fn links_meet(
+    words: &[u64],
+    at: Layout,
+    counts: Counts,
+    r: usize,
+    a: usize,
+    p: &[u64; 8],
+) -> bool
+    requires { ⌜ Laid at (now words) × ClosedStore (at .width) counts (now words) × (r < counts .roles) × (a < counts .items) ⌝ }
+    ensures { λ t. ⌜ Decides t (LinksMeet (Holds (at .width) counts (now (words .entry))) r a (now (p .entry))) ⌝ }
+{
+    let from = link_row(at, r, a);
+    row::pick::shares(words, from, at.width, p)
+}
+
 // The items that the role r links to x.
 pub fn back_row(words: &[u64], at: Layout, counts: Counts, r: usize, x: usize) -> [u64; 8]
     requires { ⌜ Laid at (now words) × ClosedStore (at .width) counts (now words) × (r < counts .roles) × (x < counts .items) ⌝ }
     ensures { λ t. ⌜ Marks (counts .items) t (λ y. Holds (at .width) counts (now (words .entry)) (Link r y x)) ⌝ }
 {
     let width = at.width;
-    let mut from = link_row(at, r, 0) + x / 64;
-    let mut t = [0u64; 8];
-    let mut h = 0;
-    while h < width {
-        t[h] = row::copy::gather(words, from, width, (x % 64) as u64, 64);
-        from += 64 * width;
-        h += 1;
-    }
-    t
+    let from = link_row(at, r, 0) + x / 64;
+    row::copy::column(words, from, width, (x % 64) as u64, width)
+}
+
+// The items in the concept c.
+pub fn concept_row(words: &[u64], at: Layout, counts: Counts, c: usize) -> [u64; 8]
+    requires { ⌜ Laid at (now words) × ClosedStore (at .width) counts (now words) × (c < counts .concepts) ⌝ }
+    ensures { λ r. ⌜ Marks (counts .items) r (λ x. Holds (at .width) counts (now (words .entry)) (In x c)) ⌝ }
+{
+    row::copy::column(words, at.item, 1, c as u64, at.width)
 }

@@ -1,32 +1,30 @@
 -- Laws of looking cells up: a cell's bit tells whether it holds, and a row's bits which of its cells do. Assumes nothing.
-use mathlib.Core.Path.{_≡_, refl, sym, ap, _∙_}
+use mathlib.Core.Path.{_≡_, sym}
 use mathlib.Core.Logic.{inl, inr, ⊎-elim}
 use mathlib.Core.Bool.{Bool}
 use mathlib.Core.List.{List}
 use Prim.Native.Nat.{ℕ, _+_, _*_, _/_, _%_, _≤_, _<_}
 use native.Mathlib.Omega.{arith}
-use native.Mathlib.Decide.{ℕ-discrete, decLt}
-use native.Mathlib.Nat.{add-mul, mul-assoc, mul-comm, mul-le-mul-right}
-use lib.ListN.{getD, set, length-set, replicate}
-use lib.Seq.{getD-set-same, getD-set-other}
+use native.Mathlib.Nat.{mul-comm, mul-le-mul-right}
+use lib.ListN.{getD}
 use Rattle.logic.specs.Decides.{Decides}
 use Rattle.logic.specs.laws.Decides.{decides-iff}
-use Rattle.row.specs.Bit.{hasb}
-use Rattle.row.specs.Row.{Copied, RowHas}
-use Rattle.row.specs.Change.{gathered}
-use Rattle.row.specs.Pick.{Among, Marks, Together, room}
+use Rattle.row.specs.Bit.{Has, hasb}
+use Rattle.row.specs.Row.{Copied}
+use Rattle.row.specs.Change.{TakenOn}
+use Rattle.row.specs.Pick.{Among, Column, Marks, Shared, Together}
 use Rattle.row.specs.laws.Rows.{row-within}
 use Rattle.row.specs.laws.Pick.{decides-has}
-use Rattle.row.specs.laws.Bit.{at-place, moved, zero-none}
-use Rattle.row.specs.laws.Gather.{gathered-has, has-gathered}
-use Rattle.row.specs.laws.Together.{has-together, together-has, together-none}
+use Rattle.row.specs.laws.Bit.{at-place}
+use Rattle.row.specs.laws.Column.{column-has, has-column}
+use Rattle.row.specs.laws.Together.{has-together, taken-gets, taken-has, taken-keeps, together-has}
 use Rattle.closure.specs.declared.Counts.{Counts}
 use Rattle.closure.specs.Cell.{Cell, Within}
-use Rattle.closure.specs.Cell.Cell.{Same, Link}
-use Rattle.closure.specs.Layout.{ClosedStore, Holds, wordOf, bitOf, itemLimit, linkAt, roleLimit, widest}
-use Rattle.closure.specs.Look.{Column, LinksJoined}
+use Rattle.closure.specs.Cell.Cell.{Same, In, Link}
+use Rattle.closure.specs.Layout.{ClosedStore, Holds, wordOf, bitOf, inAt, itemLimit, linkAt, roleLimit, widest}
+use Rattle.closure.specs.Look.{LinksJoined, LinksMeet}
 use Rattle.closure.specs.laws.InLaws.{row-same, same-row}
-use Rattle.closure.specs.laws.Parts.{item-lt, link-holds, link-place, linkIx}
+use Rattle.closure.specs.laws.Parts.{item-lt, link-holds, link-place, linkIx, store-parts}
 
 -- the test of its bit decides whether a cell within the counts holds
 pub decides-cell : {W : ℕ} {n : Counts} {i : ℕ} {b : Bool} (s : List ℕ) (c : Cell) → Within n c → i ≡ wordOf W c → b ≡ hasb (getD s i 0) (bitOf c) → Decides b (Holds W n s c)
@@ -44,62 +42,70 @@ link-part-small W h = let l : itemLimit W ≤ itemLimit widest = omega arith in 
 pub same-among : {W : ℕ} {n : Counts} {s r : List ℕ} (b : ℕ) → ClosedStore W n s → b < n .items → Copied s (b * W) W 8 r → Among (n .items) r (λ x. Holds W n s (Same b x))
 same-among b k l c = record { sound = λ x lx h. row-same k b l c x (item-lt (k .fits) lx) h; whole = λ x lx h. same-row k b c x h }
 
--- the row of a's links, with the row p
-pub links-joined : {W from : ℕ} {n : Counts} {s p t : List ℕ} (r a : ℕ) → ClosedStore W n s → a < n .items → from ≡ linkAt W + (r * itemLimit W + a) * W → Together s from W p t
-    → LinksJoined (Holds W n s) n r a p t
-links-joined {W} {from} {s = s} r a k l e d = record {
-  sound = λ y h. let q = together-has d y h in ⊎-elim inl (λ z. inr (link-holds k r a y (item-lt (k .fits) l) (q .0) (at-place s (place y) z))) (q .1);
-  keeps = λ y ly h. has-together d y (item-lt (k .fits) ly) (inl h);
-  links = λ y h. has-together d y (item-lt (k .fits) (h .within .2)) (inr (at-place s (sym (place y)) (h .bit)));
-}
-  where
-    place : (y : ℕ) → from + y / 64 ≡ linkAt W + ((r * itemLimit W + a) * W + y / 64)
-    place y = omega arith
+-- ---- the row of the items that a role links an item to
 
--- ---- the row of the items that a role links to x
+module _ {W from : ℕ} {n : Counts} {s : List ℕ} (r a : ℕ) (k : ClosedStore W n s) (l : a < n .items) (e : from ≡ linkAt W + (r * itemLimit W + a) * W) where
+  place : (y : ℕ) → from + y / 64 ≡ linkIx W r a (y / 64)
+  place y = omega arith
 
--- before the first word
-pub column-none : (s : List ℕ) (from step k : ℕ) → Column s from step k 0 (replicate room 0)
-column-none s from step k = record { len = refl; words = λ g l. absurd (omega arith); rest = together-none s s 0 .rest }
+  link-told : (y : ℕ) → y < itemLimit W → Has (getD s (from + y / 64) 0) (y % 64) → Holds W n s (Link r a y)
+  link-told y h z = link-holds k r a y (item-lt (k .fits) l) h (at-place s (place y) z)
 
--- one word more
-pub column-more : {s t : List ℕ} {from step k h v : ℕ} → Column s from step k h t → h < room → v ≡ gathered s (from + h * (64 * step)) step k 64 → Column s from step k (h + 1) (set t h v)
-column-more {s} {t} {from} {step} {k} {h} {v} c l e = record {
-  len = length-set t h v ∙ c .len;
-  words = λ g lg. go g lg (ℕ-discrete g h);
-  rest = λ g lg. getD-set-other t h g v 0 (λ q. omega arith) ∙ c .rest g (omega arith);
-}
-  where
-    go : (g : ℕ) → g < h + 1 → Dec (g ≡ h) → getD (set t h v) g 0 ≡ gathered s (from + g * (64 * step)) step k 64
-    go g lg (yes p) = rw p (getD-set-same t h v 0 (omega (arith, c .len)) ∙ e)
-    go g lg (no p) = getD-set-other t h g v 0 p ∙ c .words g (omega arith)
+  told-link : (y : ℕ) → Holds W n s (Link r a y) → Has (getD s (from + y / 64) 0) (y % 64)
+  told-link y h = at-place s (sym (place y)) (h .bit)
 
--- after the last word
-pub column-done : {s t : List ℕ} {from step k h width : ℕ} → Column s from step k h t → h ≤ width → width ≤ h → Column s from step k width t
-column-done c a b = record { len = c .len; words = λ g l. c .words g (omega arith); rest = λ g l. c .rest g (omega arith) }
+  -- it and the row p together
+  pub links-joined : {p t : List ℕ} → Together s from W p t → LinksJoined (Holds W n s) n r a p t
+  links-joined d = record {
+    sound = λ y h. let q = together-has d y h in ⊎-elim inl (λ z. inr (link-told y (q .0) z)) (q .1);
+    keeps = λ y ly h. has-together d y (item-lt (k .fits) ly) (inl h);
+    links = λ y h. has-together d y (item-lt (k .fits) (h .within .2)) (inr (told-link y h));
+  }
 
--- the words that word h is gathered from lie within the part
-pub column-within : (W r h x : ℕ) → r < roleLimit → h < W → x < itemLimit W → (r * itemLimit W + 0) * W + x / 64 + h * (64 * W) + 64 * W < roleLimit * (itemLimit W * W) + W
-column-within W r h x hr hh hx = omega (arith, link-place W r 0 0, row-within h W (64 * W) hh, mul-comm W (64 * W), row-within r roleLimit (itemLimit W * W) hr)
+  -- the row p takes it on
+  pub links-taken : {p t : List ℕ} → TakenOn s from W p t → LinksJoined (Holds W n s) n r a p t
+  links-taken d = record {
+    sound = λ y h. ⊎-elim inl (λ z. inr (link-told y (z .0) (z .1))) (taken-has d y h);
+    keeps = λ y ly h. taken-keeps d y h;
+    links = λ y h. taken-gets d y (item-lt (k .fits) (h .within .2)) (told-link y h);
+  }
+
+  -- whether it and the row p have an item in common
+  pub links-meet : {p : List ℕ} {b : Bool} → Decides b (Shared s from W p) → Decides b (LinksMeet (Holds W n s) r a p)
+  links-meet d = decides-iff
+      (λ z. record { item = z .number; link = link-told (z .number) (z .inside) (z .here); has = z .there })
+      (λ z. record { number = z .item; inside = item-lt (k .fits) (z .link .within .2); here = told-link (z .item) (z .link); there = z .has })
+      d
+
+-- ---- rows of what is told of many items, by one bit of their words
+
+-- the words of the items' links to x lie within the part
+pub column-within : (W r x : ℕ) → r < roleLimit → x < itemLimit W → (r * itemLimit W + 0) * W + x / 64 + W * (64 * W) < roleLimit * (itemLimit W * W) + W
+column-within W r x hr hx = omega (arith, link-place W r 0 0, mul-comm W (64 * W), row-within r roleLimit (itemLimit W * W) hr)
 
 -- the row marks the items that the role r links to x
-pub column-marks : {W from : ℕ} {n : Counts} {s t : List ℕ} (r x : ℕ) → ClosedStore W n s → x < n .items → from ≡ linkAt W + (r * itemLimit W + 0) * W + x / 64 → Column s from W (x % 64) W t
+pub back-marks : {W from : ℕ} {n : Counts} {s t : List ℕ} (r x : ℕ) → ClosedStore W n s → x < n .items → from ≡ linkAt W + (r * itemLimit W + 0) * W + x / 64 → Column s from W (x % 64) W t
     → Marks (n .items) t (λ y. Holds W n s (Link r y x))
-column-marks {W} {from} {n} {s} {t} r x k l e c = record { sound = λ y h. sound y h (decLt (y / 64) W); whole = whole }
+back-marks {W} {from} {n} {s} r x k l e c = record {
+  sound = λ y h.
+      let q = column-has c y h in
+      let z = link-holds k r y x (q .0) (item-lt (k .fits) l) (at-place s (here y) (q .1)) in
+      (z .within .1, z);
+  whole = λ y ly h. has-column c y (item-lt (k .fits) ly) (at-place s (sym (here y)) (h .bit));
+}
   where
-    place : (y : ℕ) → from + y / 64 * (64 * W) + y % 64 * W ≡ linkIx W r y (x / 64)
-    place y =
-        let d : y ≡ y / 64 * 64 + y % 64 = omega arith in
-        omega (arith, link-place W r y (x / 64), link-place W r 0 (x / 64), add-mul (y / 64 * 64) (y % 64) W, mul-assoc (y / 64) 64 W, ap (λ (z : ℕ). z * W) d)
+    here : (y : ℕ) → from + y * W ≡ linkIx W r y (x / 64)
+    here y = omega (arith, link-place W r y (x / 64), link-place W r 0 (x / 64))
 
-    sound : (y : ℕ) → RowHas t y → Dec (y / 64 < W) → (y < n .items) × Holds W n s (Link r y x)
-    sound y h (yes b) =
-        let q = gathered-has s _ _ (x % 64) 64 (y % 64) (moved (c .words (y / 64) b) h) in
-        let z = link-holds k r y x (omega arith) (item-lt (k .fits) l) (at-place s (place y) (q .1)) in
-        (z .within .1, z)
-    sound y h (no b) = absurd (zero-none (moved (c .rest (y / 64) (omega arith)) h))
-
-    whole : (y : ℕ) → y < n .items → Holds W n s (Link r y x) → RowHas t y
-    whole y ly h =
-        let b : y / 64 < W = omega (arith, k .fits .items) in
-        moved (sym (c .words (y / 64) b)) (has-gathered s _ _ (x % 64) 64 (y % 64) (omega arith) (at-place s (sym (place y)) (h .bit)))
+-- the row marks the items in the concept c
+pub concept-marks : {W from : ℕ} {n : Counts} {s t : List ℕ} (c : ℕ) → ClosedStore W n s → from ≡ inAt W → Column s from 1 c W t → Marks (n .items) t (λ x. Holds W n s (In x c))
+concept-marks {W} {from} {s = s} c k e d = record {
+  sound = λ x h.
+      let q = column-has d x h in
+      let z = store-parts k .item x c (q .0) (at-place s (here x) (q .1)) in
+      (z .within .0, z);
+  whole = λ x lx h. has-column d x (item-lt (k .fits) lx) (at-place s (sym (here x)) (h .bit));
+}
+  where
+    here : (x : ℕ) → from + x * 1 ≡ inAt W + x
+    here x = omega arith

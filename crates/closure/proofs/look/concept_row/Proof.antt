@@ -1,0 +1,14 @@
+-- `closure::look::concept_row` meets its contract: the concept's bit is gathered from the words of the items. Assumes nothing.
+use borrow.Author.Needs.{needs}
+use Rattle.closure.specs.laws.Look.{concept-marks}
+use Rattle.closure.proofs.look.concept_row.Statement.{statement}
+use Rattle.closure.proofs.look.concept_row.Tie as tie
+
+column-requires : tie.Need-column-requires
+column-requires c κs = search needs
+
+returns : tie.Need-returns
+returns c = let start = c .before .before in concept-marks (start .args .c) (start .pre .1) (start .pre .0 .item) (c .column .ensures)
+
+pub concept-row-spec : {M : Type 1} → statement M
+concept-row-spec = tie.close (tie.spec column-requires returns)
