@@ -1,10 +1,11 @@
+ghost use mathlib.Core.Path.{_≡_};
 ghost use mathlib.Core.List.{[], _∷_};
 ghost use mathlib.Core.Bool.{Bool, true, false};
 ghost use Prim.Native.Nat.{_+_, _<_};
-ghost use lib.ListN.{take};
+ghost use lib.ListN.{length, take};
 ghost use Rattle.logic.specs.Decides.{Decides};
 ghost use Rattle.row.specs.Row.{RowHas};
-ghost use Rattle.row.specs.Pick.{Marks};
+ghost use Rattle.row.specs.Pick.{Marks, room};
 ghost use Rattle.closure.specs.Layout.{ClosedStore, Holds, Laid};
 ghost use Rattle.rule.specs.Meaning.{Linked, LinkedWay};
 ghost use Rattle.rule.specs.Breaks.{Path};
@@ -12,9 +13,8 @@ ghost use Rattle.rule.specs.Reach.{Alone, Gathered, Reached};
 use crate::RoleUse;
 use closure::Counts;
 use closure::Layout;
-use closure::Role;
 
-// The row r, and the items that the role links z to, if z is in the row p.
+// The row r takes on the items that the role links z to, if z is in the row p.
 fn with_links(
     words: &[u64],
     at: Layout,
@@ -22,15 +22,14 @@ fn with_links(
     role: usize,
     p: &[u64; 8],
     z: usize,
-    r: &[u64; 8],
-) -> [u64; 8]
-    requires { ⌜ Laid at (now words) × ClosedStore (at .width) counts (now words) × (role < counts .roles) × (z < counts .items) × Gathered (counts .items) (LinkedWay (Holds (at .width) counts (now words)) Bool.false role) (RowHas (now p)) z (now r) ⌝ }
-    ensures { λ t. ⌜ Gathered (counts .items) (LinkedWay (Holds (at .width) counts (now (words .entry))) Bool.false role) (RowHas (now (p .entry))) (z + 1) t ⌝ }
+    r: &mut [u64; 8],
+)
+    requires { ⌜ Laid at (now words) × ClosedStore (at .width) counts (now words) × (role < counts .roles) × (z < counts .items) × (length (now r) ≡ room) × Gathered (counts .items) (LinkedWay (Holds (at .width) counts (now words)) Bool.false role) (RowHas (now p)) z (now r) ⌝ }
+    ensures { λ _. ⌜ (length (now (r .exit)) ≡ room) × Gathered (counts .items) (LinkedWay (Holds (at .width) counts (now (words .entry))) Bool.false role) (RowHas (now (p .entry))) (z + 1) (now (r .exit)) ⌝ }
 {
     if row::pick::has(p, z) {
-        return closure::look::join_links(words, at, counts, role, z, r);
+        closure::look::add_links(words, at, counts, role, z, r);
     }
-    *r
 }
 
 // The items that the role links an item of the row p to.
@@ -41,7 +40,7 @@ fn forward(words: &[u64], at: Layout, counts: Counts, role: usize, p: &[u64; 8])
     let mut r = row::pick::empty();
     let mut z = 0;
     while z < counts.items {
-        r = with_links(words, at, counts, role, p, z, &r);
+        with_links(words, at, counts, role, p, z, &mut r);
         z += 1;
     }
     r
@@ -49,21 +48,15 @@ fn forward(words: &[u64], at: Layout, counts: Counts, role: usize, p: &[u64; 8])
 
 // Whether the role links y to an item of the row p.
 fn touches(words: &[u64], at: Layout, counts: Counts, role: usize, p: &[u64; 8], y: usize) -> bool
-    requires { ⌜ Laid at (now words) × ClosedStore (at .width) counts (now words) × (y < counts .items) ⌝ }
+    requires { ⌜ Laid at (now words) × ClosedStore (at .width) counts (now words) × (role < counts .roles) × (y < counts .items) ⌝ }
     ensures { λ t. ⌜ Decides t (Reached (LinkedWay (Holds (at .width) counts (now (words .entry))) Bool.true role) (RowHas (now (p .entry))) y) ⌝ }
 {
-    let plain = RoleUse {
-        role: Role(role),
-        inverse: false,
-    };
-    let found = crate::found::found(words, at, counts, plain, p, y);
-    let b = row::pick::least(&found);
-    b < counts.items
+    closure::look::links_meet(words, at, counts, role, y, p)
 }
 
 // The items that the role links to an item of the row p.
 fn backward(words: &[u64], at: Layout, counts: Counts, role: usize, p: &[u64; 8]) -> [u64; 8]
-    requires { ⌜ Laid at (now words) × ClosedStore (at .width) counts (now words) ⌝ }
+    requires { ⌜ Laid at (now words) × ClosedStore (at .width) counts (now words) × (role < counts .roles) ⌝ }
     ensures { λ r. ⌜ Marks (counts .items) r (Reached (LinkedWay (Holds (at .width) counts (now (words .entry))) Bool.true role) (RowHas (now (p .entry)))) ⌝ }
 {
     let mut r = row::pick::empty();
@@ -83,11 +76,11 @@ pub fn step_row(words: &[u64], at: Layout, counts: Counts, u: RoleUse, p: &[u64;
 {
     let inverse = u.inverse;
     let role = u.role.0;
-    if inverse {
-        return backward(words, at, counts, role, p);
-    }
     if counts.roles <= role {
         return row::pick::empty();
+    }
+    if inverse {
+        return backward(words, at, counts, role, p);
     }
     forward(words, at, counts, role, p)
 }

@@ -1,27 +1,26 @@
 -- Laws of the rows that paths reach. Assumes nothing.
 use mathlib.Core.Path.{_≡_, refl, sym, subst}
 use mathlib.Core.Logic.{⊎-elim}
-use mathlib.Core.Bool.{true, false}
+use mathlib.Core.Bool.{Bool, true, false}
 use mathlib.Core.List.{List, [], _∷_}
 use Prim.Native.Nat.{ℕ, _+_, _*_, _≤_, _<_}
 use native.Mathlib.Omega.{arith}
 use native.Mathlib.Decide.{ℕ-discrete}
-use borrow.Author.Tests.{ltb-true, ltb-false}
-use lib.Dec.{ltb}
 use lib.ListN.{take}
 use lib.Seq.{take-all}
 use Rattle.logic.specs.Decides.{Decides}
+use Rattle.logic.specs.laws.Decides.{decides-iff}
 use Rattle.row.specs.Row.{RowHas}
-use Rattle.row.specs.Pick.{Among, Empty, Least, Marked, Marks, room}
+use Rattle.row.specs.Pick.{Empty, Marked, Marks, room}
+use Rattle.row.specs.laws.Marks.{marks-never}
 use Rattle.closure.specs.declared.Counts.{Counts}
 use Rattle.closure.specs.Cell.{Cell}
 use Rattle.closure.specs.Cell.Cell.{Link}
-use Rattle.closure.specs.Layout.{ClosedStore, Holds, widest}
-use Rattle.closure.specs.Look.{LinksJoined}
+use Rattle.closure.specs.Layout.{Holds}
+use Rattle.closure.specs.Look.{LinksJoined, LinksMeet}
 use Rattle.rule.specs.declared.RoleUse.{RoleUse}
 use Rattle.rule.specs.Meaning.{LinkedWay, Linked}
 use Rattle.rule.specs.Breaks.{Path}
-use Rattle.rule.specs.Row.{Found}
 use Rattle.rule.specs.Reach.{Reached, Ends, Gathered, Alone}
 
 -- ---- the items that the items of a row are linked to
@@ -56,28 +55,16 @@ pub gathered-done : {W i : ℕ} {n : Counts} {s r : List ℕ} {P : ℕ → Type 
 gathered-done role g l = record { sound = g .sound; whole = λ y ly q. g .whole (q .from) y (omega (arith, q .link .within .1)) (q .has) (q .link) }
 
 -- a role that is not declared links nothing
-pub reached-none : {W : ℕ} {n : Counts} {s r : List ℕ} {P : ℕ → Type 0} (role : ℕ) → n .roles ≤ role → Empty r → Marks (n .items) r (Reached (LinkedWay (Holds W n s) false role) P)
-reached-none role l e = record { sound = λ y h. absurd (e .none y h); whole = λ y ly q. absurd (omega (arith, q .link .within .0)) }
-
--- whether y is linked to an item of a row, by the least such item
-pub touches-least : {W b : ℕ} {n : Counts} {s r : List ℕ} {P : ℕ → Type 0} (u : RoleUse) (role y : ℕ) → ClosedStore W n s → W ≤ widest → u .inverse ≡ false → u .role .0 ≡ role
-    → Among (n .items) r (Found (Holds W n s) u P y) → Least r b → Decides (ltb b (n .items)) (Reached (LinkedWay (Holds W n s) true role) P y)
-touches-least {W} {b} {n} {s} {r} {P} u role y k wide v q m d = record {
-  holds = λ t. let l = ltb-true b (n .items) t in let f = forward b (m .sound b l (d .found (omega (arith, k .fits .items)))) in record { from = b; has = f .1; link = f .0 };
-  fails = λ t z. d .least (z .from) (omega (arith, ltb-false b (n .items) t, z .link .within .2)) (m .whole (z .from) (z .link .within .2) (backward (z .from) (z .link, z .has)));
-}
+pub reached-none : (W : ℕ) (n : Counts) (s : List ℕ) {r : List ℕ} {P : ℕ → Type 0} (v : Bool) (role : ℕ) → n .roles ≤ role → Empty r → Marks (n .items) r (Reached (LinkedWay (Holds W n s) v role) P)
+reached-none W n s v role l e = marks-never e (λ y ly q. none v (q .from) y (q .link))
   where
-    C : Cell → Type 0
-    C = Holds W n s
+    none : (b : Bool) (x y : ℕ) → LinkedWay (Holds W n s) b role x y → ⊥
+    none false x y h = omega (arith, h .within .0)
+    none true x y h = omega (arith, h .within .0)
 
-    same : (x : ℕ) → Found C u P y x ≡ (C (Link role y x) × P x)
-    same x = rw (v, q) refl
-
-    forward : (x : ℕ) → Found C u P y x → C (Link role y x) × P x
-    forward x h = subst (λ (A : Type 0). A) (same x) h
-
-    backward : (x : ℕ) → C (Link role y x) × P x → Found C u P y x
-    backward x h = subst (λ (A : Type 0). A) (sym (same x)) h
+-- the inverse links an item of the row p to y: the role links y to one
+pub reached-back : {W : ℕ} {n : Counts} {s p : List ℕ} {b : Bool} (role y : ℕ) → Decides b (LinksMeet (Holds W n s) role y p) → Decides b (Reached (LinkedWay (Holds W n s) true role) (RowHas p) y)
+reached-back role y d = decides-iff (λ m. record { from = m .item; has = m .has; link = m .link }) (λ q. record { item = q .from; link = q .link; has = q .has }) d
 
 -- ---- paths
 
