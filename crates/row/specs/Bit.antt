@@ -2,7 +2,7 @@
 use mathlib.Core.Path.{_≡_}
 use mathlib.Core.Bool.{Bool}
 use mathlib.Core.List.{List, [], _∷_}
-use Prim.Native.Nat.{ℕ, _+_, _-_, _/_, _%_, _^_, _<_, min}
+use Prim.Native.Nat.{ℕ, _+_, _-_, _/_, _%_, _^_, _<_, min, _≤_}
 use lib.Count.{ones}
 use lib.Dec.{eqb}
 use lib.ListN.{getD}
@@ -18,6 +18,12 @@ hasb w k = eqb (w / 2 ^ k % 2) 1
 -- the word of 64 bits whose bits below n are set, and no other
 unfoldable pub lowBits : ℕ → ℕ
 lowBits n = 2 ^ min n 64 - 1
+
+-- r is the lowest set bit of the word w from k on; it is past the word's 64 bits if there is none
+pub record Lowest (w k r : ℕ) : Type 0 where
+  pub from : k ≤ r
+  pub found : r < 64 → Has w r
+  pub least : (j : ℕ) → k ≤ j → j < r → ¬ (Has w j)
 
 -- how many bits of the words are set
 abbrev pub total : List ℕ → ℕ

@@ -43,6 +43,13 @@ pub record Least (r : List ℕ) (x : ℕ) : Type 0 where
   pub found : x < 64 * room → RowHas r x
   pub least : (y : ℕ) → y < x → ¬ (RowHas r y)
 
+-- y is the least number of the row from x on that is below `count`; it is `count` if there is none
+pub record Next (r : List ℕ) (x count y : ℕ) : Type 0 where
+  pub from : x ≤ y
+  pub within : y ≤ count
+  pub found : y < count → RowHas r y
+  pub least : (z : ℕ) → x ≤ z → z < y → ¬ (RowHas r z)
+
 -- t, a row that stands alone, has the bits of the row r and of the row of s at `from`, in its first words, and no other
 pub record Together (s : List ℕ) (from width : ℕ) (r t : List ℕ) : Type 0 where
   pub len : length t ≡ room

@@ -1,6 +1,6 @@
 ghost use mathlib.Core.Path.{_≡_};
 ghost use mathlib.Core.Bool.{cond};
-ghost use Prim.Native.Nat.{_+_, _-_, _*_, _≤_};
+ghost use Prim.Native.Nat.{_+_, _-_, _*_, _≤_, min};
 ghost use lib.ListN.{length};
 ghost use Rattle.logic.specs.Decides.{Decides};
 ghost use Rattle.row.specs.Below.{BlocksBelow, RowBelow, RowsBelow, WordBelow};
@@ -33,6 +33,16 @@ pub fn only_if(on: bool, n: usize) -> usize
         return n;
     }
     0
+}
+
+// The lesser of the two.
+pub fn lesser(a: usize, b: usize) -> usize
+    ensures { λ r. ⌜ r ≡ min a b ⌝ }
+{
+    if a < b {
+        return a;
+    }
+    b
 }
 
 // Whether every bit of the row at `at` is below n.

@@ -2,7 +2,7 @@ ghost use mathlib.Core.Path.{_≡_};
 ghost use Prim.Native.Nat.{_+_, _*_, _≤_, _<_};
 ghost use lib.ListN.{length};
 ghost use Rattle.logic.specs.Decides.{Decides};
-ghost use Rattle.row.specs.Pick.{AllBelow, Empty, Least, Marked, Met, Shared, Without, room};
+ghost use Rattle.row.specs.Pick.{AllBelow, Empty, Least, Marked, Met, Shared, Without, room, Next};
 ghost use Rattle.row.specs.Row.{RowHas};
 
 // A row with no number.
@@ -101,4 +101,21 @@ pub fn least(r: &[u64; 8]) -> usize
         h += 1;
     }
     64 * 8
+}
+
+// The least number of the row from x on that is below `count`; if it has none, `count`.
+pub fn next(r: &[u64], x: usize, count: usize) -> usize
+    requires { ⌜ (x ≤ count) × (count ≤ 64 * length (now r)) ⌝ }
+    ensures { λ y. ⌜ Next (now (r .entry)) x count y ⌝ }
+{
+    let mut at = x;
+    while at < count {
+        let start = at / 64 * 64;
+        let k = crate::bit::lowest(r[at / 64], at % 64);
+        if k < 64 {
+            return crate::below::lesser(start + k, count);
+        }
+        at = start + crate::below::lesser(64, count - start);
+    }
+    count
 }

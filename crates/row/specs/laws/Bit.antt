@@ -1,7 +1,7 @@
 -- Laws of the bits of a word: |, &, one bit, equality and the count of set bits. Assumes nothing.
 use mathlib.Core.Path.{_≡_, refl, sym, ap, ap₂, _∙_, subst}
 use mathlib.Core.Logic.{_⊎_, inl, inr, ⊎-elim}
-use mathlib.Core.Bool.{true, false}
+use mathlib.Core.Bool.{Bool, true, false}
 use mathlib.Core.List.{List}
 use Prim.Native.Nat.{ℕ, zero, suc, _+_, _-_, _*_, _/_, _%_, _^_, _≤_, _<_, min, max}
 use native.Mathlib.Nat.{mod-lt, zero-lt-suc, div-add-mod', zero-max, pow-suc, add-comm, div-eq-of-lt, div-one, lt-of-lt-of-le, lt-of-le-of-lt, mul-div-cancel, zero-div, mul-mod-left, div-self}
@@ -36,6 +36,13 @@ has-hasb {w} {k} h = eq-eqb (w / 2 ^ k % 2) 1 (h .bit)
 
 pub hasb-not : (w k : ℕ) → hasb w k ≡ false → ¬ (Has w k)
 hasb-not w k e h = eqb-false (w / 2 ^ k % 2) 1 e (h .bit)
+
+pub not-hasb : (w k : ℕ) → ¬ (Has w k) → hasb w k ≡ false
+not-hasb w k n = go (hasb w k) refl
+  where
+    go : (b : Bool) → hasb w k ≡ b → b ≡ false
+    go true e = absurd (n (hasb-has w k e))
+    go false e = refl
 
 -- a bit of an equal word
 pub moved : {x y k : ℕ} → x ≡ y → Has x k → Has y k

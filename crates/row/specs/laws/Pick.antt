@@ -3,20 +3,21 @@ use mathlib.Core.Path.{_≡_, refl, sym, ap, _∙_, ap₂}
 use mathlib.Core.Logic.{_⊎_, inl, inr, ⊎-elim}
 use mathlib.Core.Bool.{Bool, true}
 use mathlib.Core.List.{List}
-use Prim.Native.Nat.{ℕ, zero, suc, _+_, _-_, _*_, _/_, _%_, _^_, _≤_, _<_}
+use Prim.Native.Nat.{ℕ, zero, suc, _+_, _-_, _*_, _/_, _%_, _^_, _≤_, _<_, min}
 use native.Mathlib.Nat.{mod-lt, div-one}
 use native.Mathlib.Omega.{arith}
 use native.Mathlib.Decide.{ℕ-discrete, decLt}
 use lib.Arith.{digits-mod}
 use lib.Bits.{bitAnd, bitXor, differ, xor-step, xor-shr}
 use lib.Count.{trailingZeros, under}
+use lib.Pow.{shr-shr}
 use lib.ListN.{length, getD, set, length-set, List·getD-eq-default, replicate, length-replicate, getD-replicate}
 use lib.Seq.{getD-set-same, getD-set-other}
 use Rattle.logic.specs.Decides.{Decides}
-use Rattle.row.specs.Bit.{Has, hasb, lowBits}
+use Rattle.row.specs.Bit.{Has, hasb, lowBits, Lowest}
 use Rattle.row.specs.Row.{RowHas}
 use Rattle.row.specs.Change.{orIf}
-use Rattle.row.specs.Pick.{AllBelow, Marked, Met, Without, room, Least, Empty}
+use Rattle.row.specs.Pick.{AllBelow, Marked, Met, Without, room, Least, Empty, Next}
 use Rattle.row.specs.laws.Bit.{has?, moved, at-place, zero-none, half-has, and-has, and-left, and-right, has-pow, pow-has, at-bit, has-half, hasb-has, hasb-not, low-has, has-low}
 use Rattle.row.specs.laws.Rows.{orIf-has, orIf-keeps, orIf-gets}
 
@@ -225,6 +226,61 @@ least-here r h f l = record {
 -- no word has one
 pub least-none : (r : List ℕ) (h : ℕ) → NoneBelow r h → room ≤ h → Least r (64 * room)
 least-none r h f l = record { found = λ y. absurd (omega arith); least = λ x lx. f x (omega arith) }
+
+-- ---- the next bit
+
+-- the bits of a word shifted down are the word's, from k on
+shifted-has : (w k j : ℕ) → Has (w / 2 ^ k) j → Has w (k + j)
+shifted-has w k j h = record { bit = ap (λ (x : ℕ). x % 2) (sym (shr-shr w k j)) ∙ h .bit }
+
+has-shifted : (w k j : ℕ) → Has w (k + j) → Has (w / 2 ^ k) j
+has-shifted w k j h = record { bit = ap (λ (x : ℕ). x % 2) (shr-shr w k j) ∙ h .bit }
+
+-- the lowest bit from k on
+pub lowest-is : (w k : ℕ) → Lowest w k (k + trailingZeros 64 (w / 2 ^ k))
+lowest-is w k = record {
+  from = omega arith;
+  found = λ l. shifted-has w k (trailingZeros 64 (w / 2 ^ k)) (trailing-has 64 (w / 2 ^ k) (omega arith));
+  least = λ j h l b.
+      let e : j ≡ k + (j - k) = omega arith in
+      let d : j - k < trailingZeros 64 (w / 2 ^ k) = omega arith in
+      trailing-none 64 (w / 2 ^ k) (j - k) d (has-shifted w k (j - k) (at-bit e b));
+}
+
+-- no number from x on that is below `at` is in the row
+abbrev pub NoneFrom : List ℕ → ℕ → ℕ → Type 0
+NoneFrom r x at = (z : ℕ) → x ≤ z → z < at → ¬ (RowHas r z)
+
+-- nor is one up to the lowest bit of the word from `at` on
+none-word : (r : List ℕ) (x at k : ℕ) → NoneFrom r x at → Lowest (getD r (at / 64) 0) (at % 64) k → NoneFrom r x (at / 64 * 64 + min k 64)
+none-word r x at k f low z hz lz b = go (decLt z at)
+  where
+    go : Dec (z < at) → ⊥
+    go (yes y) = f z hz y b
+    go (no y) =
+        let e : z / 64 ≡ at / 64 = omega arith in
+        low .least (z % 64) (omega arith) (omega arith) (at-place r e b)
+
+-- nor is one of the word, if it has no bit from `at` on
+pub none-past : (r : List ℕ) (x at k n : ℕ) → NoneFrom r x at → Lowest (getD r (at / 64) 0) (at % 64) k → 64 ≤ k → n ≤ 64 → NoneFrom r x (at / 64 * 64 + n)
+none-past r x at k n f low l h z hz lz b = none-word r x at k f low z hz (omega arith) b
+
+-- the lowest bit of the first word that has one
+pub next-here : (r : List ℕ) (x at count k y : ℕ) → NoneFrom r x at → Lowest (getD r (at / 64) 0) (at % 64) k → x ≤ at → at < count → k < 64 → y ≡ min (at / 64 * 64 + k) count
+    → Next r x count y
+next-here r x at count k y f low hx hc l e = record {
+  from = omega (arith, low .from);
+  within = omega arith;
+  found = λ ly.
+      let word : at / 64 ≡ y / 64 = omega arith in
+      let bit : k ≡ y % 64 = omega arith in
+      at-place r word (at-bit bit (low .found l));
+  least = λ z hz lz b. none-word r x at k f low z hz (omega arith) b;
+}
+
+-- no word has one
+pub next-none : (r : List ℕ) (x at count : ℕ) → NoneFrom r x at → x ≤ count → count ≤ at → Next r x count count
+next-none r x at count f h l = record { from = h; within = omega arith; found = λ y. absurd (omega arith); least = λ z hz lz. f z hz (omega arith) }
 
 -- ---- no bit, and the test of one
 
