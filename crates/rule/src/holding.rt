@@ -1,63 +1,73 @@
-ghost use Prim.Native.Nat.{_<_};
-ghost use Rattle.logic.specs.Decides.{Decides};
+ghost use Prim.Native.Nat.{_*_, _≤_};
 ghost use Rattle.row.specs.Row.{RowHas};
-ghost use Rattle.row.specs.Pick.{Marks};
+ghost use Rattle.row.specs.Pick.{Marks, room};
+ghost use Rattle.closure.specs.Cell.Cell.{Same, In};
 ghost use Rattle.closure.specs.Layout.{ClosedStore, Holds, Laid};
 ghost use Rattle.rule.specs.Expr.{exprAt};
-ghost use Rattle.rule.specs.Meaning.{HoldsOf};
+ghost use Rattle.rule.specs.Meaning.{HoldsOf, Linked};
 ghost use Rattle.rule.specs.Row.{NodeHolds};
 use crate::Node;
+use crate::RoleUse;
 use crate::Rule;
 use closure::Counts;
 use closure::Layout;
 
-// Whether the node holds of the item x, where p and q are the rows of its children.
-fn test(
-    words: &[u64],
-    at: Layout,
-    counts: Counts,
-    node: Node,
-    p: &[u64; 8],
-    q: &[u64; 8],
-    x: usize,
-) -> bool
-    requires { ⌜ Laid at (now words) × ClosedStore (at .width) counts (now words) × (x < counts .items) ⌝ }
-    ensures { λ r. ⌜ Decides r (NodeHolds (Holds (at .width) counts (now (words .entry))) counts node (RowHas (now (p .entry))) (RowHas (now (q .entry))) x) ⌝ }
+// The items of the concept c. A concept that is not declared has none.
+fn named(words: &[u64], at: Layout, counts: Counts, c: usize) -> [u64; 8]
+    requires { ⌜ Laid at (now words) × ClosedStore (at .width) counts (now words) ⌝ }
+    ensures { λ r. ⌜ Marks (counts .items) r (λ x. Holds (at .width) counts (now (words .entry)) (In x c)) ⌝ }
 {
-    match node {
-        Node::Name(c) => closure::look::in_concept(words, at, counts, x, c.0),
-        Node::Top => true,
-        Node::Not(_) => !row::pick::has(p, x),
-        Node::And(_, _) => row::bit::both(row::pick::has(p, x), row::pick::has(q, x)),
-        Node::AtLeast(k, u, _) => {
-            let found = crate::found::found(words, at, counts, u, p, x);
-            crate::count::articles(words, at, counts, found, k)
-        }
-        Node::SelfOf(u) => crate::look::linked(words, at, counts, u, x, x),
-        Node::One(a) => closure::look::same(words, at, counts, x, a.0),
+    if counts.concepts <= c {
+        return row::pick::empty();
     }
+    closure::look::concept_row(words, at, counts, c)
 }
 
-// The row of a node, asked item by item, where p and q are the rows of its children.
-fn each(
-    words: &[u64],
-    at: Layout,
-    counts: Counts,
-    node: Node,
-    p: &[u64; 8],
-    q: &[u64; 8],
-) -> [u64; 8]
+// The numbers below n that the row p has not.
+fn others(n: usize, p: &[u64; 8]) -> [u64; 8]
+    requires { ⌜ n ≤ 64 * room ⌝ }
+    ensures { λ r. ⌜ Marks n r (λ x. ¬ (RowHas (now (p .entry)) x)) ⌝ }
+{
+    let all = row::pick::below(n);
+    row::pick::without(&all, p)
+}
+
+// The numbers below n that both rows have.
+fn shared(n: usize, p: &[u64; 8], q: &[u64; 8]) -> [u64; 8]
+    requires { ⌜ n ≤ 64 * room ⌝ }
+    ensures { λ r. ⌜ Marks n r (λ x. RowHas (now (p .entry)) x × RowHas (now (q .entry)) x) ⌝ }
+{
+    let all = row::pick::below(n);
+    let both = row::pick::meet(p, q);
+    row::pick::meet(&all, &both)
+}
+
+// The items that the role, or its inverse, links to themselves.
+fn selves(words: &[u64], at: Layout, counts: Counts, u: RoleUse) -> [u64; 8]
     requires { ⌜ Laid at (now words) × ClosedStore (at .width) counts (now words) ⌝ }
-    ensures { λ r. ⌜ Marks (counts .items) r (NodeHolds (Holds (at .width) counts (now (words .entry))) counts node (RowHas (now (p .entry))) (RowHas (now (q .entry)))) ⌝ }
+    ensures { λ r. ⌜ Marks (counts .items) r (λ x. Linked (Holds (at .width) counts (now (words .entry))) u x x) ⌝ }
 {
     let mut r = row::pick::empty();
     let mut x = 0;
     while x < counts.items {
-        let on = test(words, at, counts, node, p, q, x);
+        let on = crate::look::linked(words, at, counts, u, x, x);
         row::pick::mark(&mut r, x, on);
         x += 1;
     }
     r
+}
+
+// The items that are the same article as a. An item that is not declared is the same as none.
+fn alike(words: &[u64], at: Layout, counts: Counts, a: usize) -> [u64; 8]
+    requires { ⌜ Laid at (now words) × ClosedStore (at .width) counts (now words) ⌝ }
+    ensures { λ r. ⌜ Marks (counts .items) r (λ x. Holds (at .width) counts (now (words .entry)) (Same x a)) ⌝ }
+{
+    if counts.items <= a {
+        return row::pick::empty();
+    }
+    let all = row::pick::below(counts.items);
+    let same = closure::look::same_row(words, at, counts, a);
+    row::pick::meet(&all, &same)
 }
 
 // The row of a node, where p and q are the rows of its children.
@@ -73,13 +83,13 @@ fn fill(
     ensures { λ r. ⌜ Marks (counts .items) r (NodeHolds (Holds (at .width) counts (now (words .entry))) counts node (RowHas (now (p .entry))) (RowHas (now (q .entry)))) ⌝ }
 {
     match node {
-        Node::Name(_) => each(words, at, counts, node, p, q),
-        Node::Top => each(words, at, counts, node, p, q),
-        Node::Not(_) => each(words, at, counts, node, p, q),
-        Node::And(_, _) => each(words, at, counts, node, p, q),
+        Node::Name(c) => named(words, at, counts, c.0),
+        Node::Top => row::pick::below(counts.items),
+        Node::Not(_) => others(counts.items, p),
+        Node::And(_, _) => shared(counts.items, p, q),
         Node::AtLeast(k, u, _) => crate::count::many(words, at, counts, k, u, p),
-        Node::SelfOf(_) => each(words, at, counts, node, p, q),
-        Node::One(_) => each(words, at, counts, node, p, q),
+        Node::SelfOf(u) => selves(words, at, counts, u),
+        Node::One(a) => alike(words, at, counts, a.0),
     }
 }
 

@@ -3,11 +3,11 @@ use mathlib.Core.Path.{_≡_, refl, sym, ap, _∙_, subst}
 use mathlib.Core.Logic.{Dec·and, Dec·not}
 use mathlib.Core.Bool.{Bool, not, true, false, true≢false}
 use mathlib.Core.List.{List}
-use Prim.Native.Nat.{ℕ, zero, suc, _-_}
+use Prim.Native.Nat.{ℕ, zero, suc, _-_, _*_, _≤_}
 use native.Mathlib.Omega.{arith}
 use borrow.Author.Tests.{not-true}
 use Rattle.row.specs.Row.{RowHas}
-use Rattle.row.specs.Pick.{Marks}
+use Rattle.row.specs.Pick.{AllBelow, Among, Marks, Met, room}
 use Rattle.closure.specs.declared.Counts.{Counts}
 use Rattle.closure.specs.Cell.{Cell, Obeys, DeclaredItem}
 use Rattle.closure.specs.Cell.Cell.{Same, In, Link}
@@ -22,7 +22,7 @@ use Rattle.rule.specs.Expr.{Expr, build, exprAt}
 use Rattle.rule.specs.Expr.Expr.{name, top, neg, both, many, own, one}
 use Rattle.rule.specs.Meaning.{LinkedWay, Linked, Articles, HoldsOf}
 use Rattle.rule.specs.Row.{NodeHolds, firstChild, hasFirst, hasSecond, secondChild}
-use Rattle.row.specs.laws.Marks.{marks-iff}
+use Rattle.row.specs.laws.Marks.{marks-cut, marks-iff}
 use Rattle.rule.specs.laws.Articles.{articles?}
 
 -- ---- it can be told
@@ -51,6 +51,11 @@ pub store-holdsOf? : {W : ℕ} {n : Counts} {s : List ℕ} → ClosedStore W n s
 store-holdsOf? {W} {n} {s} k e x = holdsOf? (k .closed .obeys) (holds? W n s) e x
 
 -- ---- a node's row
+
+-- the items that are the same as a, from the row of "same" at a
+pub alike-marks : {W : ℕ} {n : Counts} {s all same r : List ℕ} (a : ℕ) → ClosedStore W n s → n .items ≤ 64 * room → AllBelow (n .items) all → Among (n .items) same (λ x. Holds W n s (Same a x)) → Met all same r
+    → Marks (n .items) r (λ x. Holds W n s (Same x a))
+alike-marks a k small b f m = let o = k .closed .obeys in marks-iff (λ x l h. o .same-sym h) (λ x l h. o .same-sym h) (marks-cut small b f m)
 
 -- what means the same for declared items has the same articles
 pub articles-iff : {C : Cell → Type 0} {n : Counts} {k : ℕ} {P Q : ℕ → Type 0} → ((b : ℕ) → DeclaredItem n b → P b → Q b) → Articles C n k P → Articles C n k Q

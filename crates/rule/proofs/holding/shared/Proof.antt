@@ -1,0 +1,21 @@
+-- `rule::holding::shared` meets its contract. Assumes nothing.
+use native.Mathlib.Omega.{arith}
+use borrow.Author.Needs.{needs}
+use Rattle.row.specs.laws.Marks.{among-met, marks-cut}
+use Rattle.rule.proofs.holding.shared.Statement.{statement}
+use Rattle.rule.proofs.holding.shared.Tie as tie
+
+below-requires : tie.Need-below-requires
+below-requires c κs = search needs
+
+meet-requires : tie.Need-meet-requires
+meet-requires c κs = search needs
+
+meet-requires-2 : tie.Need-meet-requires-2
+meet-requires-2 c κs = search needs
+
+returns : tie.Need-returns
+returns c = let small = c .before .before .before .before .before .pre in marks-cut small (c .before .before .before .before .below .ensures) (among-met small (c .before .before .before .meet .ensures)) (c .meet2 .ensures)
+
+pub shared-spec : {M : Type 1} → statement M
+shared-spec = tie.close (tie.spec below-requires meet-requires meet-requires-2 returns)
