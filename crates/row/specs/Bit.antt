@@ -20,7 +20,7 @@ unfoldable pub lowBits : ℕ → ℕ
 lowBits n = 2 ^ min n 64 - 1
 
 -- r is the lowest set bit of the word w from k on; it is past the word's 64 bits if there is none
-pub record Lowest (w k r : ℕ) : Type 0 where
+pub record LowestBit (w k r : ℕ) : Type 0 where
   pub from : k ≤ r
   pub found : r < 64 → Has w r
   pub least : (j : ℕ) → k ≤ j → j < r → ¬ (Has w j)

@@ -14,7 +14,7 @@ use lib.Pow.{shr-shr}
 use lib.ListN.{length, getD, set, length-set, List·getD-eq-default, replicate, length-replicate, getD-replicate}
 use lib.Seq.{getD-set-same, getD-set-other}
 use Rattle.logic.specs.Decides.{Decides}
-use Rattle.row.specs.Bit.{Has, hasb, lowBits, Lowest}
+use Rattle.row.specs.Bit.{Has, hasb, lowBits, LowestBit}
 use Rattle.row.specs.Row.{RowHas}
 use Rattle.row.specs.Change.{orIf}
 use Rattle.row.specs.Pick.{AllBelow, Marked, Met, Without, room, Least, Empty, Next}
@@ -237,7 +237,7 @@ has-shifted : (w k j : ℕ) → Has w (k + j) → Has (w / 2 ^ k) j
 has-shifted w k j h = record { bit = ap (λ (x : ℕ). x % 2) (shr-shr w k j) ∙ h .bit }
 
 -- the lowest bit from k on
-pub lowest-is : (w k : ℕ) → Lowest w k (k + trailingZeros 64 (w / 2 ^ k))
+pub lowest-is : (w k : ℕ) → LowestBit w k (k + trailingZeros 64 (w / 2 ^ k))
 lowest-is w k = record {
   from = omega arith;
   found = λ l. shifted-has w k (trailingZeros 64 (w / 2 ^ k)) (trailing-has 64 (w / 2 ^ k) (omega arith));
@@ -252,7 +252,7 @@ abbrev pub NoneFrom : List ℕ → ℕ → ℕ → Type 0
 NoneFrom r x at = (z : ℕ) → x ≤ z → z < at → ¬ (RowHas r z)
 
 -- nor is one up to the lowest bit of the word from `at` on
-none-word : (r : List ℕ) (x at k : ℕ) → NoneFrom r x at → Lowest (getD r (at / 64) 0) (at % 64) k → NoneFrom r x (at / 64 * 64 + min k 64)
+none-word : (r : List ℕ) (x at k : ℕ) → NoneFrom r x at → LowestBit (getD r (at / 64) 0) (at % 64) k → NoneFrom r x (at / 64 * 64 + min k 64)
 none-word r x at k f low z hz lz b = go (decLt z at)
   where
     go : Dec (z < at) → ⊥
@@ -262,11 +262,11 @@ none-word r x at k f low z hz lz b = go (decLt z at)
         low .least (z % 64) (omega arith) (omega arith) (at-place r e b)
 
 -- nor is one of the word, if it has no bit from `at` on
-pub none-past : (r : List ℕ) (x at k n : ℕ) → NoneFrom r x at → Lowest (getD r (at / 64) 0) (at % 64) k → 64 ≤ k → n ≤ 64 → NoneFrom r x (at / 64 * 64 + n)
+pub none-past : (r : List ℕ) (x at k n : ℕ) → NoneFrom r x at → LowestBit (getD r (at / 64) 0) (at % 64) k → 64 ≤ k → n ≤ 64 → NoneFrom r x (at / 64 * 64 + n)
 none-past r x at k n f low l h z hz lz b = none-word r x at k f low z hz (omega arith) b
 
 -- the lowest bit of the first word that has one
-pub next-here : (r : List ℕ) (x at count k y : ℕ) → NoneFrom r x at → Lowest (getD r (at / 64) 0) (at % 64) k → x ≤ at → at < count → k < 64 → y ≡ min (at / 64 * 64 + k) count
+pub next-here : (r : List ℕ) (x at count k y : ℕ) → NoneFrom r x at → LowestBit (getD r (at / 64) 0) (at % 64) k → x ≤ at → at < count → k < 64 → y ≡ min (at / 64 * 64 + k) count
     → Next r x count y
 next-here r x at count k y f low hx hc l e = record {
   from = omega (arith, low .from);
