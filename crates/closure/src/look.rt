@@ -12,7 +12,7 @@ use crate::Layout;
 use crate::Statement;
 
 // Whether the item a is in the concept c. A number that is not declared is in none.
-pub fn in_concept(words: &[u64], at: Layout, counts: Counts, a: usize, c: usize) -> bool
+fn in_concept(words: &[u64], at: Layout, counts: Counts, a: usize, c: usize) -> bool
     requires { ⌜ Laid at (now words) × ClosedStore (at .width) counts (now words) ⌝ }
     ensures { λ r. ⌜ Decides r (Holds (at .width) counts (now (words .entry)) (In a c)) ⌝ }
 {
