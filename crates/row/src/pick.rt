@@ -2,7 +2,7 @@ ghost use mathlib.Core.Path.{_≡_};
 ghost use Prim.Native.Nat.{_+_, _*_, _≤_, _<_};
 ghost use lib.ListN.{length};
 ghost use Rattle.logic.specs.Decides.{Decides};
-ghost use Rattle.row.specs.Pick.{AllBelow, Empty, Least, Marked, Met, Shared, Without, room, Next};
+ghost use Rattle.row.specs.Pick.{AllBelow, Alone, Empty, Least, Marked, Met, Next, Shared, Without, room};
 ghost use Rattle.row.specs.Row.{RowHas};
 
 // A row with no number.
@@ -25,6 +25,16 @@ pub fn below(n: usize) -> [u64; 8]
         left = crate::below::after_word(left);
         h += 1;
     }
+    r
+}
+
+// A row with the number x alone.
+pub fn alone(x: usize) -> [u64; 8]
+    requires { ⌜ x < 64 * room ⌝ }
+    ensures { λ r. ⌜ Alone x r ⌝ }
+{
+    let mut r = [0u64; 8];
+    r[x / 64] = crate::bit::one_bit((x % 64) as u64);
     r
 }
 

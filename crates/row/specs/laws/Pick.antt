@@ -16,9 +16,10 @@ use lib.Seq.{getD-set-same, getD-set-other}
 use Rattle.logic.specs.Decides.{Decides}
 use Rattle.row.specs.Bit.{Has, hasb, lowBits, LowestBit}
 use Rattle.row.specs.Row.{RowHas}
-use Rattle.row.specs.Change.{orIf}
-use Rattle.row.specs.Pick.{AllBelow, Marked, Met, Without, room, Least, Empty, Next}
+use Rattle.row.specs.Change.{orIf, diagW}
+use Rattle.row.specs.Pick.{AllBelow, Alone, Marked, Met, Without, room, Least, Next, Empty}
 use Rattle.row.specs.laws.Bit.{has?, moved, at-place, zero-none, half-has, and-has, and-left, and-right, has-pow, pow-has, at-bit, has-half, hasb-has, hasb-not, low-has, has-low}
+use Rattle.row.specs.laws.Diagonal.{diagW-on, diagW-off}
 use Rattle.row.specs.laws.Rows.{orIf-has, orIf-keeps, orIf-gets}
 
 -- ---- a bit set
@@ -284,19 +285,32 @@ next-none r x at count f h l = record { from = h; within = omega arith; found = 
 
 -- ---- no bit, and the test of one
 
--- words that are all 0 have no bit
-pub empty-zero : Empty (replicate room 0)
-empty-zero = record { len = refl; none = λ x h. zero-none (moved (word (x / 64)) h) }
-  where
-    zeros : List ℕ
-    zeros = replicate room 0
+-- a row of words that are all 0
+abbrev zeros : List ℕ
+zeros = replicate room 0
 
-    word : (i : ℕ) → getD zeros i 0 ≡ 0
-    word i = go (decLt i room)
-      where
-        go : Dec (i < room) → getD zeros i 0 ≡ 0
-        go (yes l) = getD-replicate room i 0 0 l
-        go (no l) = List·getD-eq-default zeros 0 {n = i} (omega (arith, length-replicate {A = ℕ} room 0))
+-- each word of it is 0
+zero-word : (i : ℕ) → getD zeros i 0 ≡ 0
+zero-word i = go (decLt i room)
+  where
+    go : Dec (i < room) → getD zeros i 0 ≡ 0
+    go (yes l) = getD-replicate room i 0 0 l
+    go (no l) = List·getD-eq-default zeros 0 {n = i} (omega (arith, length-replicate {A = ℕ} room 0))
+
+-- words that are all 0 have no bit
+pub empty-zero : Empty zeros
+empty-zero = record { len = refl; none = λ x h. zero-none (moved (zero-word (x / 64)) h) }
+
+-- words that are all 0, but for the bit of x
+pub alone-set : {v : ℕ} (x : ℕ) → x < 64 * room → v ≡ 2 ^ (x % 64) → Alone x (set zeros (x / 64) v)
+alone-set {v} x l e = record { len = length-set zeros (x / 64) v; words = λ h. go h (ℕ-discrete h (x / 64)) }
+  where
+    go : (h : ℕ) → Dec (h ≡ x / 64) → getD (set zeros (x / 64) v) h 0 ≡ diagW x h
+    go h (yes p) =
+        ap (λ (i : ℕ). getD (set zeros (x / 64) v) i 0) p
+        ∙ getD-set-same zeros (x / 64) v 0 (omega (arith, length-replicate {A = ℕ} room 0))
+        ∙ diagW-on x h v p e
+    go h (no p) = getD-set-other zeros (x / 64) h v 0 p ∙ zero-word h ∙ diagW-off x h p
 
 -- the test of a bit decides
 pub decides-has : {b : Bool} (w k : ℕ) → b ≡ hasb w k → Decides b (Has w k)
