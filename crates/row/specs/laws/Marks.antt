@@ -7,7 +7,6 @@ use Prim.Native.Nat.{ℕ, _+_, _*_, _≤_, _<_}
 use native.Mathlib.Omega.{arith}
 use native.Mathlib.Decide.{ℕ-discrete}
 use Rattle.logic.specs.Decides.{Decides}
-use Rattle.logic.specs.laws.Decides.{decides-iff}
 use Rattle.row.specs.Row.{RowHas}
 use Rattle.row.specs.Pick.{AllBelow, Among, Empty, Marked, Marks, Met, Without, room}
 
@@ -39,10 +38,6 @@ marks-done m h l = record { sound = λ x b. (omega (arith, m .sound x b .0), m .
 pub marks-iff : {n : ℕ} {r : List ℕ} {P Q : ℕ → Type 0} → ((x : ℕ) → x < n → P x → Q x) → ((x : ℕ) → x < n → Q x → P x) → Marks n r P → Marks n r Q
 marks-iff f g m = record { sound = λ x h. let p = m .sound x h in (p .0, f x (p .0) (p .1)); whole = λ x l q. m .whole x l (g x l q) }
 
--- a row that marks, among the numbers below n
-pub marks-among : {n : ℕ} {r : List ℕ} {P : ℕ → Type 0} → Marks n r P → Among n r P
-marks-among m = record { sound = λ x l h. m .sound x h .1; whole = m .whole }
-
 -- an empty row marks what has the property P, where no number below n has it
 pub marks-never : {n : ℕ} {r : List ℕ} {P : ℕ → Type 0} → Empty r → ((x : ℕ) → x < n → ¬ (P x)) → Marks n r P
 marks-never e f = record { sound = λ x h. absurd (e .none x h); whole = λ x l p. absurd (f x l p) }
@@ -52,8 +47,8 @@ pub marks-ever : {n : ℕ} {r : List ℕ} {P : ℕ → Type 0} → AllBelow n r 
 marks-ever a f = record { sound = λ x h. let l = a .only x h in (l, f x l); whole = λ x l p. a .has x l }
 
 -- the numbers below n that a row has not
-pub marks-without : {n : ℕ} {all p r : List ℕ} → n ≤ 64 * room → AllBelow n all → Without all p r → Marks n r (λ x. ¬ (RowHas p x))
-marks-without small a w = record { sound = λ x h. (a .only x (w .left x h), w .right x h); whole = λ x l p. w .has x (omega arith) (a .has x l) p }
+pub marks-rest : {n : ℕ} {all p r : List ℕ} → n ≤ 64 * room → AllBelow n all → Without all p r → Marks n r (λ x. ¬ (RowHas p x))
+marks-rest small a w = record { sound = λ x h. (a .only x (w .left x h), w .right x h); whole = λ x l p. w .has x (omega arith) (a .has x l) p }
 
 -- what two rows have
 pub among-met : {n : ℕ} {p q r : List ℕ} → n ≤ 64 * room → Met p q r → Among n r (λ x. RowHas p x × RowHas q x)
@@ -65,7 +60,3 @@ marks-cut small a f m = record {
   sound = λ x h. let l = a .only x (m .left x h) in (l, f .sound x l (m .right x h));
   whole = λ x l p. m .has x (omega arith) (a .has x l) (f .whole x l p);
 }
-
--- a number of a row that marks what has the property P
-pub decides-marked : {n x : ℕ} {b : Bool} {r : List ℕ} {P : ℕ → Type 0} → Marks n r P → x < n → Decides b (RowHas r x) → Decides b (P x)
-decides-marked {x = x} m l d = decides-iff (λ h. m .sound x h .1) (λ p. m .whole x l p) d
