@@ -9,6 +9,7 @@ use Rattle.logic.specs.Decides.{Decides}
 use Rattle.logic.specs.laws.Decides.{decides-iff}
 use Rattle.row.specs.Row.{RowHas}
 use Rattle.row.specs.Pick.{Among, Empty, Least, Marks, Met, Without, room}
+use Rattle.row.specs.laws.Marks.{marks-never}
 use Rattle.closure.specs.declared.Counts.{Counts}
 use Rattle.closure.specs.Cell.{Cell}
 use Rattle.closure.specs.Cell.Cell.{Same}
@@ -20,14 +21,13 @@ use Rattle.rule.specs.Meaning.{Articles, Linked, LinkedWay}
 use Rattle.rule.specs.Row.{Found}
 use Rattle.rule.specs.laws.Articles.{Taken, taken-more, taken-fewer}
 use Rattle.rule.specs.laws.Holding.{articles-iff}
-use Rattle.rule.specs.laws.Pairs.{marks-no}
 
 -- ---- the row of the items found
 
 module _ (W : ℕ) (n : Counts) (s : List ℕ) (u : RoleUse) (x : ℕ) where
   -- a role that is not declared links nothing
   pub links-none : {r : List ℕ} → n .roles ≤ u .role .0 → Empty r → Marks (n .items) r (Linked (Holds W n s) u x)
-  links-none l e = marks-no e (λ y. none (u .inverse) y)
+  links-none l e = marks-never e (λ y k. none (u .inverse) y)
     where
       none : (v : Bool) (y : ℕ) → ¬ (LinkedWay (Holds W n s) v (u .role .0) x y)
       none false y c = omega (arith, c .within)

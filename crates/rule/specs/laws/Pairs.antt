@@ -8,12 +8,9 @@ use native.Mathlib.Omega.{arith}
 use Rattle.logic.specs.Decides.{Decides}
 use Rattle.row.specs.Row.{RowHas}
 use Rattle.row.specs.Pick.{Empty, Marked, Marks, Met, Without, room}
+use Rattle.row.specs.laws.Marks.{marks-never}
 
 module _ {n : ℕ} where
-  -- nothing is marked where nothing has the property
-  pub marks-no : {r : List ℕ} → Empty r → {P : ℕ → Type 0} → ((y : ℕ) → ¬ (P y)) → Marks n r P
-  marks-no e f = record { sound = λ y h. absurd (e .none y h); whole = λ y l p. absurd (f y p) }
-
   module _ {a b r : List ℕ} {P Q : ℕ → Type 0} (small : n ≤ 64 * room) (f : Marks n a P) (g : Marks n b Q) where
     -- what both rows mark
     pub marks-met : Met a b r → Marks n r (λ y. P y × Q y)
@@ -34,7 +31,7 @@ module _ {n : ℕ} where
   module _ {x a b : ℕ} {on : Bool} where
     -- the rule names another first item
     pub named-no : {r : List ℕ} → Empty r → ¬ (x ≡ a) → Marks n r (λ y. (x ≡ a) × (y ≡ b) × (on ≡ true))
-    named-no e f = marks-no e (λ y h. f (h .0))
+    named-no e f = marks-never e (λ y l h. f (h .0))
 
     -- the second item that it names is not declared
     pub named-out : {r : List ℕ} → Empty r → n ≤ b → Marks n r (λ y. (x ≡ a) × (y ≡ b) × (on ≡ true))

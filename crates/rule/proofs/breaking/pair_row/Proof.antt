@@ -2,7 +2,8 @@
 use native.Mathlib.Omega.{arith}
 use borrow.Author.Needs.{needs}
 use Rattle.logic.specs.laws.Decides.{decides-not}
-use Rattle.rule.specs.laws.Pairs.{marks-met, marks-no, marks-without, named-is}
+use Rattle.row.specs.laws.Marks.{marks-never}
+use Rattle.rule.specs.laws.Pairs.{marks-met, marks-without, named-is}
 use Rattle.rule.proofs.breaking.pair_row.Statement.{statement}
 use Rattle.rule.proofs.breaking.pair_row.Tie as tie
 
@@ -103,7 +104,7 @@ named-requires-4 : tie.Need-named-requires-4
 named-requires-4 c κs = search needs
 
 returns : tie.Need-returns
-returns c = rw (c .before .enum-told .given .1) (marks-no (c .empty .ensures) (λ y z. z))
+returns c = rw (c .before .enum-told .given .1) (marks-never (c .empty .ensures) (λ y l z. z))
 
 returns-2 : tie.Need-returns-2
 returns-2 c = rw (c .before .before .before .before .before .before .head .given .1) (marks-without (omega (arith, c .before .before .before .before .before .before .before .before .before .pre .0 .wide, c .before .before .before .before .before .before .before .before .before .pre .1 .fits .items)) (c .before .before .before .before .links .ensures) (c .before .before .links2 .ensures) (c .without .ensures))
@@ -112,16 +113,16 @@ returns-3 : tie.Need-returns-3
 returns-3 c = rw (c .before .before .before .before .before .before .head2 .given .1) (marks-without (omega (arith, c .before .before .before .before .before .before .before .before .before .pre .0 .wide, c .before .before .before .before .before .before .before .before .before .pre .1 .fits .items)) (c .before .before .before .before .path-row .ensures) (c .before .before .links3 .ensures) (c .without2 .ensures))
 
 returns-4 : tie.Need-returns-4
-returns-4 c = rw (c .before .enum-told2 .given .1) (marks-no (c .empty2 .ensures) (λ y z. z))
+returns-4 c = rw (c .before .enum-told2 .given .1) (marks-never (c .empty2 .ensures) (λ y l z. z))
 
 returns-5 : tie.Need-returns-5
-returns-5 c = rw (c .before .enum-told3 .given .1) (marks-no (c .empty3 .ensures) (λ y z. z))
+returns-5 c = rw (c .before .enum-told3 .given .1) (marks-never (c .empty3 .ensures) (λ y l z. z))
 
 returns-6 : tie.Need-returns-6
 returns-6 c = rw (c .before .before .before .before .before .before .head3 .given .1) (marks-met (omega (arith, c .before .before .before .before .before .before .before .before .before .pre .0 .wide, c .before .before .before .before .before .before .before .before .before .pre .1 .fits .items)) (c .before .before .before .before .links4 .ensures) (c .before .before .links5 .ensures) (c .meet .ensures))
 
 returns-7 : tie.Need-returns-7
-returns-7 c = rw (c .before .enum-told4 .given .1) (marks-no (c .empty4 .ensures) (λ y z. z))
+returns-7 c = rw (c .before .enum-told4 .given .1) (marks-never (c .empty4 .ensures) (λ y l z. z))
 
 returns-8 : tie.Need-returns-8
 returns-8 c = rw (c .before .before .before .head4 .given .1) (named-is (c .named .ensures) (decides-not (c .before .linked .ensures)))
