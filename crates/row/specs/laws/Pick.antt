@@ -10,7 +10,6 @@ use native.Mathlib.Decide.{ℕ-discrete, decLt}
 use lib.Arith.{digits-mod}
 use lib.Bits.{bitAnd, bitXor, differ, xor-step, xor-shr}
 use lib.Count.{trailingZeros, under}
-use lib.Pow.{shr-shr}
 use lib.ListN.{length, getD, set, length-set, List·getD-eq-default, replicate, length-replicate, getD-replicate}
 use lib.Seq.{getD-set-same, getD-set-other}
 use Rattle.logic.specs.Decides.{Decides}
@@ -19,6 +18,7 @@ use Rattle.row.specs.Row.{RowHas}
 use Rattle.row.specs.Change.{orIf, diagW}
 use Rattle.row.specs.Pick.{AllBelow, Alone, Marked, Met, Without, room, Least, Next, Empty}
 use Rattle.row.specs.laws.Bit.{has?, moved, at-place, zero-none, half-has, and-has, and-left, and-right, has-pow, pow-has, at-bit, has-half, hasb-has, hasb-not, low-has, has-low}
+use Rattle.row.specs.laws.Below.{shift-has, has-shift}
 use Rattle.row.specs.laws.Diagonal.{diagW-on, diagW-off}
 use Rattle.row.specs.laws.Rows.{orIf-has, orIf-keeps, orIf-gets}
 
@@ -230,22 +230,15 @@ least-none r h f l = record { found = λ y. absurd (omega arith); least = λ x l
 
 -- ---- the next bit
 
--- the bits of a word shifted down are the word's, from k on
-shifted-has : (w k j : ℕ) → Has (w / 2 ^ k) j → Has w (k + j)
-shifted-has w k j h = record { bit = ap (λ (x : ℕ). x % 2) (sym (shr-shr w k j)) ∙ h .bit }
-
-has-shifted : (w k j : ℕ) → Has w (k + j) → Has (w / 2 ^ k) j
-has-shifted w k j h = record { bit = ap (λ (x : ℕ). x % 2) (shr-shr w k j) ∙ h .bit }
-
 -- the lowest bit from k on
 pub lowest-is : (w k : ℕ) → LowestBit w k (k + trailingZeros 64 (w / 2 ^ k))
 lowest-is w k = record {
   from = omega arith;
-  found = λ l. shifted-has w k (trailingZeros 64 (w / 2 ^ k)) (trailing-has 64 (w / 2 ^ k) (omega arith));
+  found = λ l. shift-has w k (trailing-has 64 (w / 2 ^ k) (omega arith));
   least = λ j h l b.
       let e : j ≡ k + (j - k) = omega arith in
       let d : j - k < trailingZeros 64 (w / 2 ^ k) = omega arith in
-      trailing-none 64 (w / 2 ^ k) (j - k) d (has-shifted w k (j - k) (at-bit e b));
+      trailing-none 64 (w / 2 ^ k) (j - k) d (has-shift w k (at-bit e b));
 }
 
 -- no number from x on that is below `at` is in the row
