@@ -43,6 +43,10 @@ shift-below w n e k x = go (decLt k n)
 pub below-shift : (w n : ℕ) → w < 2 ^ 64 → WordBelow w n → w / 2 ^ n ≡ 0
 below-shift w n h f = no-bits 64 (w / 2 ^ n) (lt-of-le-of-lt (shr-le w n) h) (λ k l x. absurd (omega (arith, f (n + k) (shift-has w n x))))
 
+-- a row with no bit: its words are 0
+pub below-none : (s : List ℕ) (n i : ℕ) → RowBelow s 0 n 0 → i < n → getD s i 0 < 2 ^ 64 → getD s i 0 ≡ 0
+below-none s n i f l h = no-bits 64 (getD s i 0) h (λ k lk x. let e : i ≡ 0 + i = omega arith in absurd (omega (arith, f i l k (at-place s e x))))
+
 -- word h of a row has bits below n, as a word with what is left of n
 pub word-row : (w n h : ℕ) → WordBelow w (n - h * 64) → (k : ℕ) → Has w k → h * 64 + k < n
 word-row w n h f k x = omega (arith, f k x)
