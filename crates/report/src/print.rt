@@ -16,15 +16,6 @@ use rule::Search;
 use rule::Second;
 use sheet::Table;
 
-// The name of an entry.
-fn entry(sheet: &[u8], p: u32) -> &[u8]
-    ensures { λ r. ⌜ now r ≡ nameAt (now (sheet .entry)) p ⌝ }
-{
-    let start = (p / 32) as usize;
-    let count = (p % 32) as usize;
-    text::part::part(sheet, start, count)
-}
-
 // The name of an item; no bytes where there is none with that number.
 fn name(sheet: &[u8], t: Table, a: Item) -> &[u8]
     ensures { λ r. ⌜ now r ≡ getD (namesOf (now (sheet .entry)) t .items) (a .0) [] ⌝ }
@@ -35,7 +26,7 @@ fn name(sheet: &[u8], t: Table, a: Item) -> &[u8]
     let none = text::part::part(sheet, 0, 0);
     if i < counts.items {
         if i < 128 {
-            return entry(sheet, entries[i]);
+            return sheet::names::name_at(sheet, entries[i]);
         }
         return none;
     }

@@ -2,8 +2,9 @@
 use mathlib.Core.Path.{_≡_}
 use mathlib.Core.Bool.{cond}
 use mathlib.Core.List.{List, [], _∷_, _++_, map}
-use Prim.Native.Nat.{ℕ, _+_, _/_, _%_, _≤_}
-use lib.ListN.{length, take, drop, set, replicate}
+use Prim.Native.Nat.{ℕ, _+_, _-_, _*_, _/_, _%_, _≤_}
+use lib.Dec.{eqb}
+use lib.ListN.{length, getD, take, drop, set, replicate}
 use Rattle.text.specs.Bytes.{partOf, place as placeOf}
 use Rattle.closure.specs.Layout.{Fits, width}
 use Rattle.sheet.specs.declared.Due.{Due}
@@ -19,9 +20,17 @@ use Rattle.sheet.specs.declared.Walked.{Walked}
 use Rattle.sheet.specs.Due.{dues, fits, isExpr, wanted}
 use Rattle.sheet.specs.Names.{Names, fieldFaults, nodesIn}
 
--- the name of an entry
+-- the tag of a name: a number below 2,048 made of its last two bytes, by which most other names are told from it
+unfoldable pub tagOf : List ℕ → ℕ
+tagOf w = (getD w (length w - 1) 0 + 16 * getD w (length w - 2) 0) % 2048
+
+-- the bytes w under their own tag, and none under another
+unfoldable pub tagged : ℕ → List ℕ → List ℕ
+tagged k w = cond (eqb (tagOf w) k) w []
+
+-- the name of an entry, which has its tag, its place and its length
 abbrev pub nameAt : List ℕ → ℕ → List ℕ
-nameAt sheet p = partOf sheet (p / 32) (p % 32)
+nameAt sheet p = tagged (p / 2097152) (partOf sheet (p / 32 % 65536) (p % 32))
 
 -- the names of the first n entries
 abbrev pub entered : List ℕ → ℕ → List ℕ → List (List ℕ)

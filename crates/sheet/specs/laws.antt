@@ -6,6 +6,7 @@ pub mod Walk
 pub mod Fault
 pub mod Fields
 pub mod Accepted
+pub mod Tag
 pub mod Entry
 pub mod Stands
 pub mod Taken

@@ -1,27 +1,62 @@
 ghost use mathlib.Core.Path.{_≡_};
 ghost use mathlib.Core.List.{map};
-ghost use Prim.Native.Nat.{_≤_};
+ghost use Prim.Native.Nat.{_≤_, _<_};
 ghost use Rattle.text.specs.Bytes.{place, same};
 ghost use Rattle.sheet.specs.Names.{inverted as invertedOf, plain as plainOf, countOf};
-ghost use Rattle.sheet.specs.Table.{Placed, Roomy, nameAt, namesOf};
+ghost use Rattle.sheet.specs.Table.{Placed, Roomy, nameAt, namesOf, tagOf};
 use crate::Table;
 
-// Whether the name of an entry is w.
-fn entry_is(sheet: &[u8], p: u32, w: &[u8]) -> bool
+// The tag of a name: a number below 2,048 made of its last two bytes.
+pub fn tag(w: &[u8]) -> u32
+    ensures { λ r. ⌜ (r ≡ tagOf (now (w .entry))) × (r < 2048) ⌝ }
+{
+    let n = w.len();
+    if n == 0 {
+        return 0;
+    }
+    let last = w[n - 1] as u32;
+    if n == 1 {
+        return last * 17 % 2048;
+    }
+    let before = w[n - 2] as u32;
+    (last + 16 * before) % 2048
+}
+
+// The name of an entry.
+pub fn name_at(sheet: &[u8], p: u32) -> &[u8]
+    ensures { λ r. ⌜ now r ≡ nameAt (now (sheet .entry)) p ⌝ }
+{
+    let start = (p / 32 % 65536) as usize;
+    let count = (p % 32) as usize;
+    let f = text::part::part(sheet, start, count);
+    if tag(f) == p / 2097152 {
+        f
+    } else {
+        text::part::part(sheet, 0, 0)
+    }
+}
+
+// Whether the name of an entry is w, which has the tag given.
+fn entry_is(sheet: &[u8], p: u32, w: &[u8], key: u32) -> bool
+    requires { ⌜ key ≡ tagOf (now w) ⌝ }
     ensures { λ r. ⌜ r ≡ same (now (w .entry)) (nameAt (now (sheet .entry)) p) ⌝ }
 {
-    let start = (p / 32) as usize;
-    let count = (p % 32) as usize;
-    text::part::same(w, text::part::part(sheet, start, count))
+    if p / 2097152 != key {
+        if 0 < w.len() {
+            return false;
+        }
+    }
+    text::part::same(w, name_at(sheet, p))
 }
 
 // The place of the name w among the entries, from 0; how many there are where it is none of them.
 fn place_in(sheet: &[u8], entries: &[u32], w: &[u8]) -> usize
     ensures { λ r. ⌜ r ≡ place (now (w .entry)) (map (nameAt (now (sheet .entry))) (now (entries .entry))) ⌝ }
 {
+    let key = tag(w);
     let mut i = 0;
     while i < entries.len() {
-        if entry_is(sheet, entries[i], w) {
+        if entry_is(sheet, entries[i], w, key) {
             return i;
         }
         i += 1;

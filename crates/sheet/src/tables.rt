@@ -3,18 +3,19 @@ ghost use Prim.Native.Nat.{_+_, _*_, _≤_, _<_};
 ghost use lib.ListN.{length};
 ghost use Rattle.text.specs.Split.{fieldFrom};
 ghost use Rattle.text.specs.Name.{nameLimit};
-ghost use Rattle.sheet.specs.Table.{withConcept, withItem, withRole};
+ghost use Rattle.sheet.specs.Table.{tagOf, withConcept, withItem, withRole};
 use crate::Table;
 use closure::Counts;
 
 // The entry of the name in the field at a place of a line that starts at a place of the sheet.
 pub fn entry(start: usize, line: &[u8], at: usize) -> u32
     requires { ⌜ (start ≤ 32768) × (at ≤ 1024) × (length (fieldFrom (now line) at) ≤ nameLimit) ⌝ }
-    ensures { λ r. ⌜ r ≡ (start + at) * 32 + length (fieldFrom (now (line .entry)) at) ⌝ }
+    ensures { λ r. ⌜ r ≡ tagOf (fieldFrom (now (line .entry)) at) * 2097152 + ((start + at) * 32 + length (fieldFrom (now (line .entry)) at)) ⌝ }
 {
     let f = text::line::field(line, at);
     let n = f.len();
-    ((start + at) * 32 + n) as u32
+    let place = ((start + at) * 32 + n) as u32;
+    crate::names::tag(f) * 2097152 + place
 }
 
 // A table without names.

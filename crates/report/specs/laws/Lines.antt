@@ -6,6 +6,7 @@ use Prim.Native.Nat.{ℕ, zero, suc, _-_, _/_, _%_, _≤_, _<_}
 use native.Mathlib.Omega.{arith}
 use lib.ListN.{length, getD, take, drop, length-take, List·getD-map, List·getD-eq-default}
 use lib.Seq.{getD-take}
+use Rattle.text.specs.Bytes.{partOf}
 use Rattle.logic.specs.Number.{One}
 use Rattle.logic.specs.Number.One.{first, later}
 use Rattle.logic.specs.laws.Number.{one-cases, one-none}
@@ -18,20 +19,25 @@ use Rattle.sheet.specs.Names.{Names}
 use Rattle.sheet.specs.Promise.{findingText, findingsText}
 use Rattle.sheet.specs.Said.{Said}
 use Rattle.sheet.specs.Table.{entered, nameAt}
+use Rattle.sheet.specs.laws.Tag.{tag-none, tagged-own, tagged-short}
 use Rattle.report.specs.Lines.{lineOf, lineText, linesText}
 
 -- ---- names
 
+-- the entry 0 has no name
+no-name : (sheet : List ℕ) → nameAt sheet 0 ≡ []
+no-name sheet = tagged-own 0 [] (sym (tag-none [] refl))
+
 module _ (sheet : List ℕ) (n : ℕ) (entries : List ℕ) (i : ℕ) where
   -- the name with the number i is that of its entry, and there is no name of none
   name-of : getD (entered sheet n entries) i [] ≡ nameAt sheet (getD (take n entries) i 0)
-  name-of = List·getD-map (nameAt sheet) (take n entries) i 0
+  name-of = ap (λ (d : List ℕ). getD (entered sheet n entries) i d) (sym (no-name sheet)) ∙ List·getD-map (nameAt sheet) (take n entries) i 0
 
   pub name-at : i < n → nameAt sheet (getD entries i 0) ≡ getD (entered sheet n entries) i []
   name-at h = sym (name-of ∙ ap (nameAt sheet) (getD-take n entries i 0 h))
 
   none-of : length (take n entries) ≤ i → [] ≡ getD (entered sheet n entries) i []
-  none-of h = sym (name-of ∙ ap (nameAt sheet) (List·getD-eq-default (take n entries) 0 h))
+  none-of h = sym (name-of ∙ ap (nameAt sheet) (List·getD-eq-default (take n entries) 0 h) ∙ no-name sheet)
 
   pub name-none : n ≤ i → [] ≡ getD (entered sheet n entries) i []
   name-none h = none-of (omega (arith, length-take n entries))
@@ -43,7 +49,7 @@ module _ (sheet : List ℕ) (n : ℕ) (entries : List ℕ) (i : ℕ) where
   pub name-short : length (getD (entered sheet n entries) i []) ≤ 31
   name-short =
       let p : ℕ = getD (take n entries) i 0 in
-      omega (arith, ap length name-of, length-take (p % 32) (drop (p / 32) sheet))
+      omega (arith, ap length name-of, tagged-short (p / 2097152) (partOf sheet (p / 32 % 65536) (p % 32)), length-take (p % 32) (drop (p / 32 % 65536) sheet))
 
 -- ---- lines
 

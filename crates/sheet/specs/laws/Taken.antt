@@ -26,7 +26,7 @@ use Rattle.sheet.specs.Names.{fieldFault}
 use Rattle.sheet.specs.Read.{at}
 use Rattle.sheet.specs.Said.{Said, lineSaid, saying, statementOf}
 use Rattle.sheet.specs.Stands.{Begins, Stands, Takes}
-use Rattle.sheet.specs.Table.{Roomy, nameAt, namesOf, withConcept, withItem, withRole}
+use Rattle.sheet.specs.Table.{Roomy, nameAt, namesOf, tagOf, withConcept, withItem, withRole}
 use Rattle.sheet.specs.Words.{bodyOf, formOf}
 use Rattle.sheet.specs.laws.Accepted.{Accepted, concept-new, item-new, line-accepted, right-first, role-new, statement-within}
 use Rattle.sheet.specs.laws.Entry.{entry-name, name-inside}
@@ -71,8 +71,8 @@ module _ {sheet : List ℕ} {t : Table} {m : Marks} {s : List ℕ} {start : ℕ}
     entry-ready : (start ≤ sheetLimit) × (from ≤ 1024) × (length (fieldFrom line from) ≤ nameLimit)
     entry-ready = (tk .near, omega (arith, name-inside line from good, short), name-bounds (fieldFrom line from) good .1)
 
-    entry-is : (p : ℕ) → p ≡ (start + from) * 32 + length (fieldFrom line from) → nameAt sheet p ≡ at 0 (partsFrom 9 line from)
-    entry-is p e = entry-name line from good sheet start p (tk .inside) e ∙ nth-first line from 0 (omega arith)
+    entry-is : (p : ℕ) → p ≡ tagOf (fieldFrom line from) * 2097152 + ((start + from) * 32 + length (fieldFrom line from)) → nameAt sheet p ≡ at 0 (partsFrom 9 line from)
+    entry-is p e = entry-name line from good sheet start p (omega (arith, entry-ready .0, entry-ready .1)) (tk .inside) e ∙ nth-first line from 0 (omega arith)
 
   room : Roomy t
   room = tk .stands .room
@@ -87,7 +87,7 @@ module _ {sheet : List ℕ} {t : Table} {m : Marks} {s : List ℕ} {start : ℕ}
     pub concept-room : t .counts .concepts < conceptLimit
     concept-room = omega (arith, concept-name .1, entered-length sheet (t .counts .concepts) (t .concepts) (omega (arith, places .concepts, room .concepts)))
 
-    pub concept-taken : (p : ℕ) → p ≡ (start + from) * 32 + length (fieldFrom line from) → (k : ℕ) (x : Said) → Stands sheet t m s x → Stands sheet (withConcept t p) m s (lineSaid k x line)
+    pub concept-taken : (p : ℕ) → p ≡ tagOf (fieldFrom line from) * 2097152 + ((start + from) * 32 + length (fieldFrom line from)) → (k : ℕ) (x : Said) → Stands sheet t m s x → Stands sheet (withConcept t p) m s (lineSaid k x line)
     concept-taken p e k x st = by-form k x (rw told (stands-concept places st k (partsFrom 9 line from) p (entry-is (concept-name .0) p e) (rw told at (accepted .started)) concept-room))
 
   module _ (told : f ≡ form.Role) where
@@ -100,7 +100,7 @@ module _ {sheet : List ℕ} {t : Table} {m : Marks} {s : List ℕ} {start : ℕ}
     pub role-room : t .counts .roles < roleLimit
     role-room = omega (arith, role-name .1, entered-length sheet (t .counts .roles) (t .roles) (omega (arith, places .roles, room .roles)))
 
-    pub role-taken : (p : ℕ) → p ≡ (start + from) * 32 + length (fieldFrom line from) → (k : ℕ) (x : Said) → Stands sheet t m s x → Stands sheet (withRole t p) m s (lineSaid k x line)
+    pub role-taken : (p : ℕ) → p ≡ tagOf (fieldFrom line from) * 2097152 + ((start + from) * 32 + length (fieldFrom line from)) → (k : ℕ) (x : Said) → Stands sheet t m s x → Stands sheet (withRole t p) m s (lineSaid k x line)
     role-taken p e k x st = by-form k x (rw told (stands-role places st k (partsFrom 9 line from) p (entry-is (role-name .0) p e) (rw told at (accepted .started)) role-room))
 
   module _ (told : f ≡ form.Item) where
@@ -113,7 +113,7 @@ module _ {sheet : List ℕ} {t : Table} {m : Marks} {s : List ℕ} {start : ℕ}
     pub item-room : t .counts .items < itemLimit width
     item-room = omega (arith, item-name .1, entered-length sheet (t .counts .items) (t .items) (omega (arith, places .items, room .items)))
 
-    pub item-taken : (p : ℕ) → p ≡ (start + from) * 32 + length (fieldFrom line from) → (k : ℕ) (x : Said) → Stands sheet t m s x → Stands sheet (withItem t p) m s (lineSaid k x line)
+    pub item-taken : (p : ℕ) → p ≡ tagOf (fieldFrom line from) * 2097152 + ((start + from) * 32 + length (fieldFrom line from)) → (k : ℕ) (x : Said) → Stands sheet t m s x → Stands sheet (withItem t p) m s (lineSaid k x line)
     item-taken p e k x st = by-form k x (rw told (stands-item places st k (partsFrom 9 line from) p (entry-is (item-name .0) p e) (rw told at (accepted .started)) item-room))
 
   -- the numbers of a statement

@@ -1,6 +1,6 @@
 -- Laws of tests over bytes, of comparing and of looking up. Assumes nothing.
 use mathlib.Core.Path.{_≡_, refl, sym, _∙_, ap, subst}
-use mathlib.Core.Bool.{Bool, true, false}
+use mathlib.Core.Bool.{Bool, true, false, true≢false}
 use mathlib.Core.List.{List, [], _∷_, map}
 use Prim.Native.Nat.{ℕ, zero, suc, _+_, _-_, _<_, _≤_}
 use native.Mathlib.Numerals.{add-one}
@@ -53,6 +53,18 @@ same-all [] [] l f = refl
 same-all [] (b ∷ t) l f = absurd (omega arith)
 same-all (a ∷ s) [] l f = absurd (omega arith)
 same-all (a ∷ s) (b ∷ t) l f = rw (eq-eqb _ _ (f 0 (omega arith))) (same-all s t (omega arith) (λ i h. f (suc i) (omega arith)))
+
+-- what is told to be the same is
+pub same-true : (a b : List ℕ) → same a b ≡ true → a ≡ b
+unfolding same
+same-true [] [] e = refl
+same-true [] (b ∷ t) e = absurd (true≢false (sym e))
+same-true (a ∷ s) [] e = absurd (true≢false (sym e))
+same-true (a ∷ s) (b ∷ t) e = go (ℕ-discrete a b) (same-true s t)
+  where
+    go : Dec (a ≡ b) → (same s t ≡ true → s ≡ t) → a ∷ s ≡ b ∷ t
+    go (yes q) rest = let z = rw (eq-eqb _ _ q) at e in rw (q, rest z)
+    go (no q) rest = absurd (true≢false (sym (rw (ne-eqb _ _ q) at e)))
 
 -- the lists agree from the place before i on
 pub agree-more : (a b : List ℕ) (i : ℕ) → ((j : ℕ) → i ≤ j → j < length a → getD a j 0 ≡ getD b j 0) → getD a (i - 1) 0 ≡ getD b (i - 1) 0

@@ -10,17 +10,17 @@ use Rattle.report.proofs.print.name.Tie as tie
 part-requires : tie.Need-part-requires
 part-requires c κs = search needs
 
-mul-entry : tie.Need-mul-entry
-mul-entry c = search needs
+mul-name-at : tie.Need-mul-name-at
+mul-name-at c = search needs
 
-array-read-entry : tie.Need-array-read-entry
-array-read-entry c = search needs
+array-read-name-at : tie.Need-array-read-name-at
+array-read-name-at c = search needs
 
-entry-requires : tie.Need-entry-requires
-entry-requires c κs = search needs
+name-at-requires : tie.Need-name-at-requires
+name-at-requires c κs = search needs
 
 returns : tie.Need-returns
-returns c = let x = c .before .before .before .before .before .before .before .before .args in c .entry .ensures ∙ name-at (x .sheet .now) (x .t .counts .items) (x .t .items) (x .a .0) (c .before .before .if1 .taken)
+returns c = let x = c .before .before .before .before .before .before .before .before .args in c .name-at .ensures ∙ name-at (x .sheet .now) (x .t .counts .items) (x .t .items) (x .a .0) (c .before .before .if1 .taken)
 
 returns-2 : tie.Need-returns-2
 returns-2 c = let x = c .before .before .before .before .before .before .before .args in let e : length (x .t .items) ≡ 128 = search needs in c .before .before .before .part .ensures ∙ name-out (x .sheet .now) (x .t .counts .items) (x .t .items) (x .a .0) (omega (arith, c .if2 .left))
@@ -31,4 +31,4 @@ returns-3 c = let x = c .before .before .before .before .before .before .args in
 pub name-spec : {M : Type 1} → statement M
 name-spec =
     tie.close
-    (tie.spec part-requires mul-entry array-read-entry entry-requires returns returns-2 returns-3)
+    (tie.spec part-requires mul-name-at array-read-name-at name-at-requires returns returns-2 returns-3)

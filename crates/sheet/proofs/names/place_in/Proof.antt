@@ -12,10 +12,13 @@ use Rattle.sheet.proofs.names.place_in.Statement.{statement}
 use Rattle.sheet.proofs.names.place_in.Tie as tie
 
 abbrev Inv-loop : tie.InvT-loop
-Inv-loop sheet entries w i₀ i = (i ≤ length entries) × (place w (map (nameAt sheet) entries) ≡ i + place w (map (nameAt sheet) (drop i entries)))
+Inv-loop sheet entries w key i₀ i = (i ≤ length entries) × (place w (map (nameAt sheet) entries) ≡ i + place w (map (nameAt sheet) (drop i entries)))
 
 abbrev μ-loop : tie.MeasureT-loop
-μ-loop sheet entries w i₀ i = length entries - i
+μ-loop sheet entries w key i₀ i = length entries - i
+
+tag-requires : tie.Need-tag-requires Inv-loop μ-loop
+tag-requires c κs = search needs
 
 loop-holds : tie.Need-loop-holds Inv-loop μ-loop
 loop-holds c = (search needs, omega arith)
@@ -32,7 +35,7 @@ entry-is-requires c κs = search needs
 returns : tie.Need-returns Inv-loop μ-loop
 returns c =
     let v = c .before .before .before .before .loop in
-    let x = c .before .before .before .before .before .before .before .before .args in
+    let x = c .before .before .before .before .before .before .before .before .before .args in
     omega (arith, v .inv .1, table-here (x .w .now) (nameAt (x .sheet .now)) (x .entries .now) (v .i) (omega arith) (sym (c .before .entry-is .ensures) ∙ c .if1 .taken))
 
 add-i : tie.Need-add-i Inv-loop μ-loop
@@ -44,13 +47,13 @@ loop-less c = search needs
 loop-again : tie.Need-loop-again Inv-loop μ-loop
 loop-again c =
     let v = c .before .before .before .before .loop in
-    let x = c .before .before .before .before .before .before .before .before .args in
+    let x = c .before .before .before .before .before .before .before .before .before .args in
     (search needs, omega (arith, v .inv .1, table-on (x .w .now) (nameAt (x .sheet .now)) (x .entries .now) (v .i) (omega arith) (sym (c .before .entry-is .ensures) ∙ c .if1 .left)))
 
 returns-2 : tie.Need-returns-2 Inv-loop μ-loop
 returns-2 c =
     let v = c .before .loop in
-    let x = c .before .before .before .before .before .args in
+    let x = c .before .before .before .before .before .before .args in
     omega (arith, v .inv .1, table-out (x .w .now) (nameAt (x .sheet .now)) (x .entries .now) (v .i) (omega arith))
 
 pub place-in-spec : {M : Type 1} → statement M
@@ -59,6 +62,7 @@ place-in-spec =
     (tie.spec
     Inv-loop
     μ-loop
+    tag-requires
     loop-holds
     mul-entry-is
     shared-slice-read-entry-is
