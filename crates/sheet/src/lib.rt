@@ -136,7 +136,7 @@ pub struct Walked {
     pub nodes: usize,
 }
 
-// The declared names, each as its place in the sheet: 32 times the start, and the length.
+// The declared names, each as an entry: its length, 32 times its place in the sheet, and 2,097,152 times its tag, which is made of its last two bytes.
 pub struct Table {
     pub concepts: [u32; 32],
     pub roles: [u32; 16],
