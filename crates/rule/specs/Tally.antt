@@ -11,13 +11,10 @@ use Rattle.closure.specs.declared.Counts.{Counts}
 use Rattle.closure.specs.Cell.{Cell, DeclaredItem, DeclaredRole}
 use Rattle.closure.specs.Cell.Cell.{Same, Link}
 use Rattle.rule.specs.declared.RoleUse.{RoleUse}
+use Rattle.rule.specs.Form.{countLimit}
 use Rattle.rule.specs.Meaning.{Articles}
 
--- the most articles that tallies count
-abbrev pub most : ℕ
-most = 8
-
--- how many words the tallies have: rows 0 to `most`
+-- how many words the tallies have: rows 0 to the largest count
 abbrev pub tallyRoom : ℕ
 tallyRoom = 72
 
@@ -26,7 +23,7 @@ pub record Countable (n : Counts) (k : ℕ) (u : RoleUse) : Type 0 where
   pub inverse : u .inverse ≡ true
   pub role : DeclaredRole n (u .role .0)
   pub some : 1 ≤ k
-  pub few : k ≤ most
+  pub few : k ≤ countLimit
 
 -- x is in row j of the tallies
 abbrev pub TallyHas : List ℕ → ℕ → ℕ → Type 0

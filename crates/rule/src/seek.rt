@@ -1,5 +1,4 @@
 ghost use mathlib.Core.Path.{_≡_};
-ghost use Prim.Native.Nat.{min};
 ghost use Rattle.closure.specs.Layout.{ClosedStore, Laid, width};
 ghost use Rattle.rule.specs.Search.{Prepares, Ready, Starts, Stepped, Stops, cursorOf, searchAt};
 ghost use Rattle.rule.specs.Promise.{Totals};
@@ -65,16 +64,6 @@ pub fn step(words: &[u64], c: Search) -> Search
     search_at(next, finding.rule, at, counts)
 }
 
-// The lesser of the two.
-fn lesser(a: usize, b: usize) -> usize
-    ensures { λ r. ⌜ r ≡ min a b ⌝ }
-{
-    if a < b {
-        return a;
-    }
-    b
-}
-
 // What a listing needs, in a store that is known to be closed: a part of the entry points, for those who keep one store for many rules.
 pub fn start(
     words: &[u64],
@@ -93,7 +82,7 @@ pub fn start(
     let search = search_at(cursor, number, at, counts);
     Prepared {
         answer: Total::Count(total),
-        write: lesser(total as usize, room),
+        write: row::below::lesser(total as usize, room),
         search,
     }
 }

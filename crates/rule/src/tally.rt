@@ -7,8 +7,9 @@ ghost use Rattle.row.specs.Row.{RowHas};
 ghost use Rattle.row.specs.Change.{Mapped};
 ghost use Rattle.row.specs.Pick.{Marks, room};
 ghost use Rattle.closure.specs.Layout.{ClosedStore, Holds, Laid};
+ghost use Rattle.rule.specs.Form.{countLimit};
 ghost use Rattle.rule.specs.Meaning.{Articles, LinkedWay};
-ghost use Rattle.rule.specs.Tally.{Blank, Countable, Counted, most, takenOn, tallyRoom};
+ghost use Rattle.rule.specs.Tally.{Blank, Countable, Counted, takenOn, tallyRoom};
 use crate::RoleUse;
 use crate::Rule;
 use closure::Counts;
@@ -63,7 +64,7 @@ fn take_on(t: &mut [u64; 72], r: &[u64; 8], from: usize, width: usize)
 
 // Each row of the tallies up to row k takes on what the row before it and the row r have in common, the highest first.
 fn count_row(t: &mut [u64; 72], r: &[u64; 8], k: usize, width: usize)
-    requires { ⌜ (length (now t) ≡ tallyRoom) × (k ≤ most) × (width ≤ room) ⌝ }
+    requires { ⌜ (length (now t) ≡ tallyRoom) × (k ≤ countLimit) × (width ≤ room) ⌝ }
     ensures { λ _. ⌜ Counted 0 k width (now (r .entry)) (now (t .entry)) (now (t .exit)) ⌝ }
 {
     let mut j = k;
@@ -82,7 +83,7 @@ pub fn tally(
     role: usize,
     p: &[u64; 8],
 ) -> [u64; 8]
-    requires { ⌜ Laid at (now words) × ClosedStore (at .width) counts (now words) × (role < counts .roles) × (1 ≤ k) × (k ≤ most) ⌝ }
+    requires { ⌜ Laid at (now words) × ClosedStore (at .width) counts (now words) × (role < counts .roles) × (1 ≤ k) × (k ≤ countLimit) ⌝ }
     ensures { λ r. ⌜ Marks (counts .items) r (λ x. Articles (Holds (at .width) counts (now (words .entry))) counts k (λ b. LinkedWay (Holds (at .width) counts (now (words .entry))) Bool.true role x b × RowHas (now (p .entry)) b)) ⌝ }
 {
     let none = row::pick::empty();
