@@ -12,12 +12,12 @@ use Rattle.sheet.specs.declared.Reading.{Reading}
 use Rattle.sheet.specs.Fault.{begun}
 use Rattle.sheet.specs.Names.{countsOf}
 use Rattle.sheet.specs.Promise.{Held, Reads}
-use Rattle.sheet.specs.Said.{Said, marksOf, outcome}
+use Rattle.sheet.specs.Said.{Said, marksOf, outcome, statementsOf}
 use Rattle.sheet.specs.Said.Outcome.{accepted, refused}
 
 -- the same statements, in whatever order and however often
 abbrev pub SameStatements : Said → Said → Type 0
-SameStatements x y = ((z : Statement) → One z (x .statements) → One z (y .statements)) × ((z : Statement) → One z (y .statements) → One z (x .statements))
+SameStatements x y = ((z : Statement) → One z (statementsOf (x .statements)) → One z (statementsOf (y .statements))) × ((z : Statement) → One z (statementsOf (y .statements)) → One z (statementsOf (x .statements)))
 
 -- one field a sentence
 pub record SheetDemand3 : Type 0 where

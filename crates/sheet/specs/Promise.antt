@@ -20,7 +20,7 @@ use Rattle.sheet.specs.declared.Reading.{Reading}
 use Rattle.sheet.specs.declared.Reading.the-variants as reading
 use Rattle.sheet.specs.Fault.{begun}
 use Rattle.sheet.specs.Names.{Names, countsOf}
-use Rattle.sheet.specs.Said.{Said, SheetRule, Outcome, marksOf, outcome}
+use Rattle.sheet.specs.Said.{Said, SheetRule, Outcome, marksOf, outcome, statementsOf}
 use Rattle.sheet.specs.Said.Outcome.{refused as refusedAt, accepted as acceptedSheet}
 
 -- the most findings that are printed
@@ -29,7 +29,7 @@ printLimit = 200
 
 -- the store holds exactly what follows from what was said
 abbrev pub Held : Said → List ℕ → Type 0
-Held x t = Keeps width (countsOf (x .names)) (Stated (x .statements)) t
+Held x t = Keeps width (countsOf (x .names)) (Stated (statementsOf (x .statements))) t
 
 -- the store at a faulty line: all zero until the first accepted statement or rule makes it fresh
 abbrev pub Stopped : Bool → Said → List ℕ → Type 0

@@ -1,6 +1,6 @@
 -- What a sheet says, line by line, up to its end or to its first faulty line.
 use mathlib.Core.Bool.{cond, not}
-use mathlib.Core.List.{List, [], _∷_, _++_}
+use mathlib.Core.List.{List, [], _∷_, _++_, map}
 use Prim.Native.Nat.{ℕ, _+_}
 use lib.Dec.{leb, eqb}
 use lib.ListN.{length}
@@ -25,10 +25,19 @@ pub record SheetRule : Type 0 where
   pub line : ℕ
   pub rule : Rule
 
+-- a statement of a sheet, and the number of its line
+pub record SheetStatement : Type 0 where
+  pub line : ℕ
+  pub statement : Statement
+
+-- the statements without their lines
+abbrev pub statementsOf : List SheetStatement → List Statement
+statementsOf ls = map (λ (l : SheetStatement). l .statement) ls
+
 -- what the lines so far said: the names declared, the statements and the rules, in order
 pub record Said : Type 0 where
   pub names : Names
-  pub statements : List Statement
+  pub statements : List SheetStatement
   pub rules : List SheetRule
 
 -- how far the sheet has come
@@ -55,7 +64,7 @@ saying k s form.Role fs =
     record { names = record { concepts = s .names .concepts; roles = s .names .roles ++ (at 0 fs ∷ []); items = s .names .items }; statements = s .statements; rules = s .rules }
 saying k s form.Item fs =
     record { names = record { concepts = s .names .concepts; roles = s .names .roles; items = s .names .items ++ (at 0 fs ∷ []) }; statements = s .statements; rules = s .rules }
-saying k s (form.Statement w) fs = record { names = s .names; statements = s .statements ++ (statementOf (s .names) w fs ∷ []); rules = s .rules }
+saying k s (form.Statement w) fs = record { names = s .names; statements = s .statements ++ (record { line = k; statement = statementOf (s .names) w fs } ∷ []); rules = s .rules }
 saying k s (form.Rule w) fs = record { names = s .names; statements = s .statements; rules = s .rules ++ (record { line = k; rule = ruleOf (s .names) w fs } ∷ []) }
 saying k s form.Bare fs = s
 saying k s form.Unknown fs = s

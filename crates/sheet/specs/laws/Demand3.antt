@@ -20,7 +20,7 @@ use Rattle.sheet.specs.Fault.{begun}
 use Rattle.sheet.specs.Names.{countsOf}
 use Rattle.sheet.specs.Promise.{Held, Leaves, Reads, Stopped}
 use Rattle.sheet.specs.Promise.Reads.{wrong-size, refused as refusedRead, accepted as acceptedRead}
-use Rattle.sheet.specs.Said.{Outcome, Said, marksOf, outcome}
+use Rattle.sheet.specs.Said.{Outcome, Said, marksOf, outcome, statementsOf}
 use Rattle.sheet.specs.Said.Outcome.{accepted, refused}
 use Rattle.sheet.specs.laws.Stands.{keeps-iff}
 
@@ -36,7 +36,7 @@ stated-move f c (stated {x = x} o) = stated (f x o)
 
 held-same : (x y : Said) {t v : List ℕ} → Words 64 t → Words 64 v → countsOf (x .names) ≡ countsOf (y .names) → SameStatements x y → Held x t → Held y v → t ≡ v
 held-same x y {v = v} w u e same a b =
-    keeps-unique w u a (keeps-iff (stated-move (same .1)) (stated-move (same .0)) (subst (λ (n : Counts). Keeps width n (Stated (y .statements)) v) (sym e) b))
+    keeps-unique w u a (keeps-iff (stated-move (same .1)) (stated-move (same .0)) (subst (λ (n : Counts). Keeps width n (Stated (statementsOf (y .statements))) v) (sym e) b))
 
 any-order : {sheet other s u t v : List ℕ} {x y : Said} {r q : Reading} → Words 64 t → Words 64 v → length s ≡ size width → length u ≡ size width → outcome sheet ≡ accepted x → outcome other ≡ accepted y
     → countsOf (x .names) ≡ countsOf (y .names) → SameStatements x y → Reads sheet s t r → Reads other u v q → t ≡ v

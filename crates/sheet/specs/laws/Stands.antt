@@ -36,7 +36,7 @@ use Rattle.sheet.specs.Fault.{begun, none, ruleLimit}
 use Rattle.sheet.specs.Names.{countsOf}
 use Rattle.sheet.specs.Promise.{Stopped}
 use Rattle.sheet.specs.Read.{at}
-use Rattle.sheet.specs.Said.{Said, saying, statementOf}
+use Rattle.sheet.specs.Said.{Said, SheetStatement, saying, statementOf, statementsOf}
 use Rattle.sheet.specs.Stands.{Begins, Stands}
 use Rattle.sheet.specs.Table.{Roomy, entered, nameAt, namesOf, withConcept, withItem, withRole}
 use Rattle.sheet.specs.Words.{Field}
@@ -137,6 +137,12 @@ map-last sheet (q ∷ ps) p = rw (map-last sheet ps p)
 entered-more : (sheet : List ℕ) (n : ℕ) (entries : List ℕ) (p : ℕ) → n < length entries → entered sheet (n + 1) (set entries n p) ≡ entered sheet n entries ++ nameAt sheet p ∷ []
 entered-more sheet n entries p h = rw (add-one, take-suc-set entries n p h) (map-last sheet (take n entries) p)
 
+-- ---- the statements without their lines
+
+pub statements-more : (ls : List SheetStatement) (l : SheetStatement) → statementsOf (ls ++ l ∷ []) ≡ statementsOf ls ++ l .statement ∷ []
+statements-more [] l = refl
+statements-more (k ∷ ls) l = ap (_∷_ (k .statement)) (statements-more ls l)
+
 -- ---- what stands for what was said, after one line more
 
 none-last : {A : Type 0} (xs : List A) (y : A) → none (xs ++ y ∷ []) ≡ false
@@ -166,10 +172,10 @@ module _ {sheet : List ℕ} {t : Table} {m : Marks} {s : List ℕ} {x : Said} (p
       flip false q = sym q
 
   -- the store once it has begun
-  pub begun-keeps : {s1 : List ℕ} → Begins (begun m) (t .counts) s s1 → Keeps width (t .counts) (Stated (x .statements)) s1
+  pub begun-keeps : {s1 : List ℕ} → Begins (begun m) (t .counts) s s1 → Keeps width (t .counts) (Stated (statementsOf (x .statements))) s1
   begun-keeps {s1} b = go (begun m) refl (st .store) b
     where
-      go : (c : Bool) → begun m ≡ c → Stopped c x s → Begins c (t .counts) s s1 → Keeps width (t .counts) (Stated (x .statements)) s1
+      go : (c : Bool) → begun m ≡ c → Stopped c x s → Begins c (t .counts) s s1 → Keeps width (t .counts) (Stated (statementsOf (x .statements))) s1
       go true e h q = rw (q, ← counted) h
       go false e h q = rw (no-statements e) (keeps-none q)
 
@@ -179,11 +185,11 @@ module _ {sheet : List ℕ} {t : Table} {m : Marks} {s : List ℕ} {x : Said} (p
   stands-statement k w fs {s1} {s2} b kept =
       record {
         names = st .names;
-        marks = rw (none-last (x .statements) (statementOf (x .names) w fs), ap (λ (n : Marks). n .rules) (st .marks));
+        marks = rw (none-last (x .statements) (record { line = k; statement = statementOf (x .names) w fs }), ap (λ (n : Marks). n .rules) (st .marks));
         room = st .room;
         few = st .few;
         long = kept .store .long;
-        store = rw (counted, st .names) (keeps-more (statementOf (namesOf sheet t) w fs) (begun-keeps b) kept);
+        store = rw (counted, st .names, statements-more) (keeps-more (statementOf (namesOf sheet t) w fs) (begun-keeps b) kept);
       }
 
   pub stands-rule : (k : ℕ) (w : RuleWord) (fs : List Field) {s1 : List ℕ} → m .rules < ruleLimit → Begins (begun m) (t .counts) s s1
