@@ -5,4 +5,7 @@ pub mod Walk
 pub mod Picked
 pub mod Promise
 pub mod Seek
+pub mod Steps
+pub mod Fact
+pub mod Aim
 pub mod laws

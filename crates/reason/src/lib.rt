@@ -1,4 +1,16 @@
 // Why a cell follows: of statements kept as numbers, some from which it follows, and from no part of them with one taken out. Knows nothing of sheets.
+mod choose;
+pub mod code;
+mod facts;
+mod reach;
+mod seek;
+
+ghost use Rattle.closure.specs.Cell.{cellOf};
+ghost use Rattle.reason.specs.Aim.{plainGoal};
+ghost use Rattle.reason.specs.Promise.{Reasoned, Sought};
+ghost use Rattle.reason.specs.Seek.{Narrowest, Wanted};
+use closure::Counts;
+use closure::Statement;
 
 // The statements that are searched.
 pub struct Lines {}
@@ -8,6 +20,10 @@ impl Lines {
     pub const MOST: usize = 6592;
     // The words of marks on them, a bit for each.
     pub const WORDS: usize = 103;
+    // The words of a table of steps.
+    pub const TABLE: usize = 256;
+    // The places between which steps lead from concept to concept, or from role to role.
+    pub const ABOVE: usize = 48;
 }
 
 // What steps are about: items that are the same, concepts that are under others, roles that are under others or their inverses.
@@ -30,4 +46,92 @@ pub struct Way {
 pub struct Goal {
     pub one: Way,
     pub other: Way,
+}
+
+// The steps that a statement states, if any: from a to b, and from c to d.
+pub struct Steps {
+    pub any: bool,
+    pub a: usize,
+    pub b: usize,
+    pub c: usize,
+    pub d: usize,
+}
+
+// An item in a concept (sort 1: the item twice, and the concept above) or a link (sort 2: the two items, and the role above); any other sort is neither.
+pub struct Fact {
+    pub sort: usize,
+    pub above: usize,
+    pub first: usize,
+    pub second: usize,
+}
+
+// A way from one fact to another, if it is open: from the concept or the role `from` to `to`, from the item a to b and from c to d.
+pub struct Route {
+    pub on: bool,
+    pub from: usize,
+    pub to: usize,
+    pub a: usize,
+    pub b: usize,
+    pub c: usize,
+    pub d: usize,
+}
+
+// Marks steps of a kind by which y is reached from x.
+fn by_steps(
+    codes: &[u32],
+    kind: Kind,
+    nodes: usize,
+    x: usize,
+    y: usize,
+    marks: &mut [u64; Lines::WORDS],
+)
+    requires { ⌜ Wanted kind nodes (plainGoal x y) (now codes) (now marks) ⌝ }
+    ensures { λ _. ⌜ Narrowest kind (plainGoal x y) (now (codes .entry)) (now (marks .exit)) ⌝ }
+{
+    let one = Way {
+        on: true,
+        a: x,
+        b: y,
+        c: x,
+        d: y,
+    };
+    let other = Way {
+        on: false,
+        a: x,
+        b: y,
+        c: x,
+        d: y,
+    };
+    crate::seek::narrow(codes, kind, nodes, Goal { one, other }, marks);
+}
+
+// Marks a reason for the cell that `goal` states: statements from which it follows, and from no part of them with one taken out.
+pub fn explain(codes: &[u32], counts: Counts, goal: Statement, marks: &mut [u64; Lines::WORDS])
+    requires { ⌜ Sought counts (cellOf goal) (now codes) (now marks) ⌝ }
+    ensures { λ _. ⌜ Reasoned counts (cellOf goal) (now (codes .entry)) (now (marks .exit)) ⌝ }
+{
+    let above = Lines::ABOVE;
+    match goal {
+        Statement::Same(a, b) => by_steps(codes, Kind::Same, counts.items, a.0, b.0, marks),
+        Statement::Under(a, b) => by_steps(codes, Kind::Under, above, a.0, b.0, marks),
+        Statement::RoleUnder(r, u, s) => {
+            by_steps(
+                codes,
+                Kind::Role,
+                above,
+                r.0,
+                crate::facts::role_place(u, s.0),
+                marks,
+            )
+        }
+        Statement::In(_, _) => crate::choose::by_fact(
+            codes,
+            counts,
+            crate::facts::stated(goal),
+            marks,
+        ),
+        Statement::Link(_, _, _) => {
+            crate::choose::by_fact(codes, counts, crate::facts::stated(goal), marks)
+        }
+    }
 }

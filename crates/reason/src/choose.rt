@@ -1,0 +1,81 @@
+// The search for a reason of a fact: the statement from which steps lead to it, the steps above, and the steps of "same".
+ghost use Rattle.reason.specs.Aim.{Above, Aimed, Beside, Fresh, Joinable, Joined, Reaches, Sighted, Starts};
+use crate::Fact;
+use crate::Kind;
+use crate::Lines;
+use closure::Counts;
+
+// The place of the first statement from which steps lead to the fact g.
+fn find(codes: &[u32], g: Fact, same: &[u64; Lines::TABLE], above: &[u64; Lines::TABLE]) -> usize
+    requires { ⌜ Sighted g (now codes) (now same) (now above) ⌝ }
+    ensures { λ r. ⌜ Starts g (now (codes .entry)) r ⌝ }
+{
+    let mut i = 0;
+    while i < codes.len() {
+        if crate::facts::meets(same, above, crate::facts::fact_at(codes, i), g) {
+            return i;
+        }
+        i += 1;
+    }
+    i
+}
+
+// Marks the steps above by which the fact g is reached; says from which statement on.
+fn mark_above(codes: &[u32], counts: Counts, g: Fact, marks: &mut [u64; Lines::WORDS]) -> usize
+    requires { ⌜ Aimed counts g (now codes) × Fresh (now marks) ⌝ }
+    ensures { λ r. ⌜ Above g (now (codes .entry)) (now (marks .exit)) r ⌝ }
+{
+    let kind = crate::facts::kind_above(g);
+    let mut same = [0u64; Lines::TABLE];
+    let mut above = [0u64; Lines::TABLE];
+    crate::reach::fill(&mut same, codes, Kind::Same, counts.items);
+    crate::reach::fill(&mut above, codes, kind, Lines::ABOVE);
+    let n = find(codes, g, &same, &above);
+    let goal = crate::facts::above_goal(&same, crate::facts::fact_at(codes, n), g);
+    crate::seek::narrow(codes, kind, Lines::ABOVE, goal, marks);
+    n
+}
+
+// Marks the steps of "same" by which the fact g is reached from the statement at the place n, beside the steps above that `up` marks.
+fn mark_same(
+    codes: &[u32],
+    counts: Counts,
+    g: Fact,
+    n: usize,
+    up: &[u64; Lines::WORDS],
+    marks: &mut [u64; Lines::WORDS],
+)
+    requires { ⌜ Aimed counts g (now codes) × Above g (now codes) (now up) n × Fresh (now marks) ⌝ }
+    ensures { λ _. ⌜ Beside g (now (codes .entry)) (now (up .entry)) (now (marks .exit)) n ⌝ }
+{
+    let mut above = [0u64; Lines::TABLE];
+    crate::reach::build(
+        &mut above,
+        codes,
+        crate::facts::kind_above(g),
+        Lines::ABOVE,
+        up,
+    );
+    let goal = crate::facts::same_goal(&above, crate::facts::fact_at(codes, n), g);
+    crate::seek::narrow(codes, Kind::Same, counts.items, goal, marks);
+}
+
+// Marks what `more` marks too, and the place n.
+fn join(marks: &mut [u64; Lines::WORDS], more: &[u64; Lines::WORDS], n: usize)
+    requires { ⌜ Joinable (now marks) (now more) n ⌝ }
+    ensures { λ _. ⌜ Joined (now (marks .entry)) (now (more .entry)) n (now (marks .exit)) ⌝ }
+{
+    row::change::row_or(marks, 0, Lines::WORDS, more, true);
+    crate::seek::mark(marks, n);
+}
+
+// Marks a reason for the fact g.
+pub fn by_fact(codes: &[u32], counts: Counts, g: Fact, marks: &mut [u64; Lines::WORDS])
+    requires { ⌜ Aimed counts g (now codes) × Fresh (now marks) ⌝ }
+    ensures { λ _. ⌜ Reaches g (now (codes .entry)) (now (marks .exit)) ⌝ }
+{
+    let n = mark_above(codes, counts, g, marks);
+    let mut more = [0u64; Lines::WORDS];
+    mark_same(codes, counts, g, n, marks, &mut more);
+    join(marks, &more, n);
+}

@@ -1,0 +1,71 @@
+-- `why::finding::explain` meets its contract. Assumes nothing.
+use mathlib.Core.Path.{refl}
+use borrow.Author.Tests.{not-false, not-true}
+use Rattle.sheet.specs.Promise.Reads.{wrong-size}
+use Rattle.sheet.specs.laws.Count.{opens-judges}
+use Rattle.sheet.specs.laws.Stands.{Places}
+use Rattle.why.specs.Finding.Points.{refused}
+use Rattle.why.specs.laws.Pointed.{points-asked, points-found, points-not, points-refused}
+use borrow.Author.Needs.{needs}
+use Rattle.why.proofs.finding.explain.Statement.{statement}
+use Rattle.why.proofs.finding.explain.Tie as tie
+use Rattle.why.proofs.finding.explain.Reads as reads
+use Rattle.why.proofs.finding.explain.Lts as lts
+use Rattle.sheet.proofs.sheets.fill.Reads as fill-reads
+use Rattle.why.proofs.finding.broken.Reads as broken-reads
+use Rattle.why.proofs.list.Reads as list-reads
+
+-- the tables of names that were filled have their places
+places : (c : lts.After-broken-arg (fill-reads.Asked, fill-reads.Learnt, broken-reads.Asked, broken-reads.Learnt, list-reads.Asked, list-reads.Learnt) reads.Pre reads.Post) → Places (c .before .before .before .before .before .before .before .fill .result .kept .table)
+places c =
+    let g = c .before .before .before .before .before .before .before .fill .ok in
+    record { concepts = search needs; roles = search needs; items = search needs }
+
+returns : tie.Need-returns
+returns c = refused (wrong-size (c .if1 .taken) refl) refl
+
+fill-requires : tie.Need-fill-requires
+fill-requires c κs = search needs
+
+same-length : tie.Need-same-length
+same-length c = search needs
+
+returns-2 : tie.Need-returns-2
+returns-2 c = points-refused (c .before .before .before .before .fill .ensures) (c .before .before .before .before .before .before .if1 .left) (c .before .before .before .before .before .before .before .before .before .before .args .k) (c .before .before .before .before .before .before .before .before .before .before .args .a) (c .before .before .before .before .before .before .before .before .before .before .args .room .now) (c .if2 .taken)
+
+broken-requires : tie.Need-broken-requires
+broken-requires c κs = opens-judges (c .before .before .before .before .before .before .before .fill .ensures) (c .before .before .before .if2 .left) (places c)
+
+same-length-2 : tie.Need-same-length-2
+same-length-2 c = search needs
+
+returns-3 : tie.Need-returns-3
+returns-3 c = points-not (c .before .before .before .before .before .before .before .before .before .before .fill .ensures) (c .before .before .before .before .before .before .before .before .before .before .before .before .if1 .left) (c .before .before .before .before .before .before .before .before .before .before .before .before .before .before .before .before .args .k) (c .before .before .before .before .before .before .before .before .before .before .before .before .before .before .before .before .args .a) (c .before .before .before .before .before .before .before .before .before .before .before .before .before .before .before .before .args .room .now) (c .before .before .before .before .before .before .if2 .left) (places (c .before .before .before)) (c .before .before .broken .result) (c .before .before .broken .ensures) (not-true _ (c .if3 .taken))
+
+list-requires : tie.Need-list-requires
+list-requires c κs = points-asked (c .before .before .before .before .before .before .before .before .before .before .before .fill .ensures) (c .before .before .before .before .before .before .before .before .before .before .before .before .before .if1 .left) (c .before .before .before .before .before .before .before .before .before .before .before .before .before .before .before .before .before .args .k) (c .before .before .before .before .before .before .before .before .before .before .before .before .before .before .before .before .before .args .a) (c .before .before .before .before .before .before .before .before .before .before .before .before .before .before .before .before .before .args .room .now) (c .before .before .before .before .before .before .before .if2 .left) (places (c .before .before .before .before)) (c .before .before .before .broken .result) (c .before .before .before .broken .ensures) (not-false _ (c .before .if3 .left))
+
+same-length-3 : tie.Need-same-length-3
+same-length-3 c = search needs
+
+same-length-4 : tie.Need-same-length-4
+same-length-4 c = search needs
+
+returns-4 : tie.Need-returns-4
+returns-4 c = points-found (c .before .before .before .before .before .before .before .before .before .before .before .before .before .before .fill .ensures) (c .before .before .before .before .before .before .before .before .before .before .before .before .before .before .before .before .if1 .left) (c .before .before .before .before .before .before .before .before .before .before .before .before .before .before .before .before .before .before .before .before .args .k) (c .before .before .before .before .before .before .before .before .before .before .before .before .before .before .before .before .before .before .before .before .args .a) (c .before .before .before .before .before .before .before .before .before .before .before .before .before .before .before .before .before .before .before .before .args .room .now) (c .before .before .before .before .before .before .before .before .before .before .if2 .left) (places (c .before .before .before .before .before .before .before)) (c .before .before .before .before .before .before .broken .result) (c .before .before .before .before .before .before .broken .ensures) (not-false _ (c .before .before .before .before .if3 .left)) (c .before .before .list .ensures)
+
+pub explain-spec : {M : Type 1} → statement M
+explain-spec =
+    tie.close
+    (tie.spec
+    returns
+    fill-requires
+    same-length
+    returns-2
+    broken-requires
+    same-length-2
+    returns-3
+    list-requires
+    same-length-3
+    same-length-4
+    returns-4)

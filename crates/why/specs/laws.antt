@@ -1,0 +1,12 @@
+-- What is proved of reasons.
+pub mod Reason
+pub mod Long
+pub mod Stating
+pub mod Gather
+pub mod Listed
+pub mod Rising
+pub mod Explained
+pub mod Few
+pub mod Finding
+pub mod Pointed
+pub mod Settled

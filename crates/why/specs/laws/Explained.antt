@@ -1,0 +1,66 @@
+-- From the parts of the search to the promise. Assumes nothing.
+use mathlib.Core.Path.{_≡_, refl, sym, ap, _∙_, subst}
+use mathlib.Core.List.{List}
+use Prim.Native.Nat.{ℕ}
+use lib.ListN.{length}
+use Rattle.closure.specs.declared.Counts.{Counts}
+use Rattle.closure.specs.Cell.{Cell}
+use Rattle.closure.specs.Layout.{Holds, size, width}
+use Rattle.sheet.specs.declared.Ended.{Ended}
+use Rattle.sheet.specs.declared.Table.{Table}
+use Rattle.sheet.specs.Names.{countsOf}
+use Rattle.sheet.specs.Pass.{Accepts}
+use Rattle.sheet.specs.Said.{Said}
+use Rattle.sheet.specs.Stands.{Opens}
+use Rattle.sheet.specs.laws.Count.{opens-held, opens-outcome, whole-refused}
+use Rattle.sheet.specs.laws.Pass.{saidOf}
+use Rattle.sheet.specs.laws.Stands.{Places, counts-of}
+use Rattle.why.specs.declared.Explained.the-variants.{Lines, Refused}
+use Rattle.why.specs.Asked.{Asked, Of, ReasonMarked}
+use Rattle.why.specs.Writing.{Answered, Lists}
+use Rattle.reason.specs.Picked.{picked}
+use Rattle.why.specs.Promise.{Explains}
+use Rattle.why.specs.Promise.Explains.{refused, not-true, found}
+use Rattle.why.specs.Reason.{FollowsFrom, Reason}
+
+-- a reason that is marked and listed
+pub answered : {sheet : List ℕ} {t : Table} {c : Cell} {marks before after : List ℕ} {r : ℕ} → ReasonMarked sheet t c marks → Lists sheet t marks before after r → Answered sheet t c before after r
+answered {marks = marks} h l x o m = record { lines = picked marks (x .statements); reason = h x o m; listed = l .listed x o m; total = l .total x o m }
+
+-- the table counts the names of the sheet
+pub opens-counts : {sheet s u : List ℕ} {e : Ended} (w : Opens sheet s u e) → Places (e .kept .table) → countsOf (w .said .names) ≡ e .kept .table .counts
+opens-counts {sheet} {e = e} w p = ap countsOf (w .names) ∙ counts-of sheet (e .kept .table) p (w .room)
+
+module _ {sheet s u : List ℕ} {e : Ended} (w : Opens sheet s u e) (long : length s ≡ size width) (c : Cell) (before : List ℕ) where
+  -- a refused sheet
+  pub explains-refused : (e .why ≡ 0 → ⊥) → Explains sheet s u c before before (Refused (e .line) (e .why))
+  explains-refused z = refused (whole-refused long w z .reads) refl
+
+  -- an accepted one
+  module _ (z : e .why ≡ 0) (p : Places (e .kept .table)) where
+    counts-are : countsOf (w .said .names) ≡ e .kept .table .counts
+    counts-are = opens-counts w p
+
+    explains-accepts : Accepts sheet (e .kept .table)
+    explains-accepts = record { said = w .said; ends = opens-outcome w z; names = w .names }
+
+    -- the cell is not true
+    pub explains-not : ¬ (Holds width (e .kept .table .counts) u c) → Explains sheet s u c before before (Refused 0 24)
+    explains-not h = not-true long (opens-outcome w z) (opens-held w z) (rw counts-are h) refl
+
+    -- it is true: it follows
+    explains-followed : Holds width (e .kept .table .counts) u c → Of sheet (e .kept .table) (λ x. FollowsFrom (e .kept .table .counts) c (x .statements))
+    explains-followed h x o m =
+        subst (λ (y : Said). FollowsFrom (e .kept .table .counts) c (y .statements)) (ap saidOf (sym (opens-outcome w z) ∙ o))
+        (subst (λ (n : Counts). FollowsFrom n c (w .said .statements)) counts-are (opens-held w z .sound c (rw counts-are h)))
+
+    pub explains-asked : Holds width (e .kept .table .counts) u c → Asked sheet (e .kept .table) c
+    explains-asked h = record { room = w .room; sheetSaid = explains-accepts; follows = explains-followed h }
+
+    -- a reason is found
+    pub explains-found : {after : List ℕ} {r : ℕ} → Answered sheet (e .kept .table) c before after r → Explains sheet s u c before after (Lines r)
+    explains-found {after} h =
+        let o = opens-outcome w z in
+        let a = h (w .said) o (w .names) in
+        subst (λ (k : ℕ). Explains sheet s u c before after (Lines k)) (sym (a .total))
+        (found long o (opens-held w z) (subst (λ (n : Counts). Reason n c (w .said .statements) (a .lines)) (sym counts-are) (a .reason)) (a .listed))

@@ -1,0 +1,51 @@
+-- A sheet has no more statements than there are marks: the line of each has at least five bytes with its line feed. Assumes nothing.
+use mathlib.Core.Path.{_≡_, refl, sym, ap, _∙_}
+use mathlib.Core.Bool.{Bool, true, false, cond}
+use mathlib.Core.List.{List, [], _∷_, _++_}
+use Prim.Native.Nat.{ℕ, suc, _+_, _*_, _-_, _≤_, zero-le}
+use native.Mathlib.Omega.{arith}
+use lib.ListN.{length, length-append}
+use Rattle.text.specs.Bytes.{partOf}
+use Rattle.text.specs.Split.{endOf, fields, partsFrom, split}
+use Rattle.text.specs.laws.Split.{parts-all, parts-next}
+use Rattle.sheet.specs.declared.Form.{Form}
+use Rattle.sheet.specs.declared.Form.the-variants as form
+use Rattle.sheet.specs.Fault.{lineFault, none}
+use Rattle.sheet.specs.Said.{Outcome, Said, SheetStatement, lineSaid, marksOf, nothing, outcome, outcomeFrom, saying, statementOf}
+use Rattle.sheet.specs.Said.Outcome.{accepted}
+use Rattle.sheet.specs.Words.{bodyOf, formOf}
+use Rattle.sheet.specs.laws.Accepted.{line-accepted}
+use Rattle.sheet.specs.laws.Pass.{accepted-start, accepted-step, saidOf}
+use Rattle.why.specs.Gather.{statementLimit}
+use Rattle.why.specs.laws.Long.{line-long, split-total, total}
+
+-- one line adds a statement only if it is long enough
+said-few : (k : ℕ) (s : Said) (l : List ℕ) → lineFault (s .names) (marksOf s) l ≡ 0 → 5 * length (lineSaid k s l .statements) ≤ 5 * length (s .statements) + suc (length l)
+unfolding lineSaid
+said-few k s [] e = omega arith
+said-few k s (b ∷ l) e = go (formOf (fields (b ∷ l))) refl
+  where
+    go : (f : Form) → formOf (fields (b ∷ l)) ≡ f → 5 * length (saying k s f (bodyOf (fields (b ∷ l))) .statements) ≤ 5 * length (s .statements) + suc (length (b ∷ l))
+    go form.Concept z = omega arith
+    go form.Role z = omega arith
+    go form.Item z = omega arith
+    go (form.Statement w) z =
+        let a = line-accepted (s .names) (marksOf s) (b ∷ l) refl e .1 in
+        let r = rw z at a in
+        omega (arith, length-append (s .statements) (record { line = k; statement = statementOf (s .names) w (bodyOf (fields (b ∷ l))) } ∷ []), line-long (s .names) (b ∷ l) w z (r .right))
+    go (form.Rule w) z = omega arith
+    go form.Bare z = omega arith
+    go form.Unknown z = omega arith
+
+from-few : (k : ℕ) (s x : Said) (ls : List (List ℕ)) → outcomeFrom k s ls ≡ accepted x → 5 * length (x .statements) ≤ 5 * length (s .statements) + total ls
+unfolding outcomeFrom
+from-few k s x [] e = let z : length (s .statements) ≡ length (x .statements) = ap (λ (o : Outcome). length (saidOf o .statements)) e in omega arith
+from-few k s x (l ∷ ls) e =
+    let z = accepted-step k s x l ls e in
+    omega (arith, from-few (k + 1) (lineSaid k s l) x ls (z .1), said-few k s l (z .0))
+
+pub statements-few : (sheet : List ℕ) (x : Said) → outcome sheet ≡ accepted x → length (x .statements) ≤ statementLimit
+statements-few sheet x o =
+    let z = accepted-start sheet x o in
+    let p : split 10 sheet ≡ partOf sheet 0 (endOf 10 sheet 0 - 0) ∷ partsFrom 10 sheet (endOf 10 sheet 0 + 1) = sym (parts-all 10 sheet) ∙ parts-next 10 sheet 0 zero-le in
+    omega (arith, from-few 2 nothing x (partsFrom 10 sheet (endOf 10 sheet 0 + 1)) (z .1), ap total p, split-total 10 sheet, z .0)

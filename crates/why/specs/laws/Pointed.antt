@@ -1,0 +1,58 @@
+-- From the parts of the search to the promise for a finding. Assumes nothing.
+use mathlib.Core.Path.{_≡_, refl, sym, subst}
+use mathlib.Core.Bool.{Bool, true, false}
+use mathlib.Core.List.{List}
+use Prim.Native.Nat.{ℕ}
+use lib.ListN.{length}
+use Rattle.closure.specs.declared.Counts.{Counts}
+use Rattle.closure.specs.Cell.Cell.{In}
+use Rattle.closure.specs.Layout.{Holds, size, width}
+use Rattle.sheet.specs.declared.Ended.{Ended}
+use Rattle.sheet.specs.Names.{countsOf}
+use Rattle.sheet.specs.Stands.{Opens}
+use Rattle.sheet.specs.laws.Count.{opens-held, opens-outcome, whole-refused}
+use Rattle.sheet.specs.laws.Stands.{Places}
+use Rattle.why.specs.declared.Pointed.the-variants.{Lines, Refused}
+use Rattle.why.specs.declared.Sides.{Sides}
+use Rattle.why.specs.Finding.{BrokenSub, Points, concept}
+use Rattle.why.specs.Sides.{Breaking, BrokenIf}
+use Rattle.why.specs.Finding.Points.{refused, not-broken, found}
+use Rattle.why.specs.Asked.{Asked}
+use Rattle.why.specs.Writing.{Answered}
+use Rattle.why.specs.Reason.{Reason}
+use Rattle.why.specs.laws.Explained.{explains-asked, opens-counts}
+use Rattle.why.specs.laws.Finding.{broken-in}
+
+module _ {sheet s u : List ℕ} {e : Ended} (w : Opens sheet s u e) (long : length s ≡ size width) (k a : ℕ) (before : List ℕ) where
+  -- a refused sheet
+  pub points-refused : (e .why ≡ 0 → ⊥) → Points sheet s u k a before before (Refused (e .line) (e .why))
+  points-refused z = refused (whole-refused long w z .reads) refl
+
+  -- an accepted one
+  module _ (z : e .why ≡ 0) (p : Places (e .kept .table)) (r : Sides) (b : Breaking sheet (e .kept .table) u k a r) where
+    counts-are : countsOf (w .said .names) ≡ e .kept .table .counts
+    counts-are = opens-counts w p
+
+    -- what was found of the rule
+    here : BrokenIf (r .named) (countsOf (w .said .names)) (w .said) u k a r
+    here = subst (λ (n : Counts). BrokenIf (r .named) n (w .said) u k a r) (sym counts-are) (b (w .said) (opens-outcome w z) (w .names))
+
+    -- the rule is not there, of another kind or not broken
+    pub points-not : r .named ≡ false → Points sheet s u k a before before (Refused 0 25)
+    points-not f = not-broken long (opens-outcome w z) (opens-held w z) (subst (λ (t : Bool). BrokenIf t (countsOf (w .said .names)) (w .said) u k a r) f here) refl
+
+    module _ (t : r .named ≡ true) where
+      broken-here : BrokenSub (countsOf (w .said .names)) (w .said) u k a (r .left) (r .right)
+      broken-here = subst (λ (y : Bool). BrokenIf y (countsOf (w .said .names)) (w .said) u k a r) t here
+
+      -- the item is in the left concept: a reason can be asked for
+      pub points-asked : Asked sheet (e .kept .table) (In a (r .left))
+      points-asked = explains-asked w long (In a (r .left)) before z p (subst (λ (n : Counts). Holds width n u (In a (r .left))) counts-are (broken-in broken-here))
+
+      -- it is found
+      pub points-found : {after : List ℕ} {m : ℕ} → Answered sheet (e .kept .table) (In a (r .left)) before after m → Points sheet s u k a before after (Lines m (concept (r .right)))
+      points-found {after} h =
+          let o = opens-outcome w z in
+          let y = h (w .said) o (w .names) in
+          subst (λ (j : ℕ). Points sheet s u k a before after (Lines j (concept (r .right)))) (sym (y .total))
+          (found long o (opens-held w z) broken-here (subst (λ (n : Counts). Reason n (In a (r .left)) (w .said .statements) (y .lines)) (sym counts-are) (y .reason)) (y .listed))

@@ -1,0 +1,167 @@
+// Why an item is a finding of a rule `sub` with concept names on both sides.
+ghost use mathlib.Core.Path.{_≡_};
+ghost use mathlib.Core.Bool.{false};
+ghost use Rattle.sheet.specs.Pass.{Accepts, Judges};
+ghost use Rattle.sheet.specs.Table.{Roomy};
+ghost use Rattle.why.specs.Asked.{Of};
+ghost use Rattle.why.specs.Finding.{Points};
+ghost use Rattle.why.specs.Sides.{Breaking, NodeIs, RuleFound, SidesAre};
+use crate::NodeName;
+use crate::Pointed;
+use crate::Sides;
+use closure::Concept;
+use closure::Item;
+use closure::Statement;
+use closure::Store;
+use rule::Head;
+use rule::Node;
+use rule::Rule;
+use sheet::RuleLine;
+use sheet::Table;
+
+// No name.
+fn no_name() -> NodeName
+    ensures { λ r. ⌜ r .named ≡ false ⌝ }
+{
+    NodeName {
+        named: false,
+        concept: 0,
+    }
+}
+
+// The concept of a node, if it is a name.
+fn name_of(n: Node) -> NodeName
+    ensures { λ r. ⌜ NodeIs n r ⌝ }
+{
+    match n {
+        Node::Name(c) => NodeName {
+            named: true,
+            concept: c.0,
+        },
+        Node::Top => no_name(),
+        Node::Not(_) => no_name(),
+        Node::And(_, _) => no_name(),
+        Node::AtLeast(_, _, _) => no_name(),
+        Node::SelfOf(_) => no_name(),
+        Node::One(_) => no_name(),
+    }
+}
+
+// No sides.
+fn no_sides() -> Sides
+    ensures { λ r. ⌜ r .named ≡ false ⌝ }
+{
+    Sides {
+        named: false,
+        left: 0,
+        right: 0,
+    }
+}
+
+// The sides of a rule with the roots a and b, if both are concept names.
+fn sides_at(u: Rule, a: usize, b: usize) -> Sides
+    requires { ⌜ u .head ≡ Head.Sub a b ⌝ }
+    ensures { λ r. ⌜ SidesAre (r .named) u r ⌝ }
+{
+    let nodes = u.nodes;
+    let c = name_of(rule::nodes::node_at(nodes, a));
+    let d = name_of(rule::nodes::node_at(nodes, b));
+    if !c.named {
+        return no_sides();
+    }
+    if !d.named {
+        return no_sides();
+    }
+    Sides {
+        named: true,
+        left: c.concept,
+        right: d.concept,
+    }
+}
+
+// The sides of a rule, if it is `sub` with concept names on both.
+fn sides(u: Rule) -> Sides
+    ensures { λ r. ⌜ SidesAre (r .named) u r ⌝ }
+{
+    let head = u.head;
+    match head {
+        Head::Sub(a, b) => sides_at(u, a, b),
+        Head::RoleSub(_, _) => no_sides(),
+        Head::Chain(_, _, _, _, _, _) => no_sides(),
+        Head::Ref(_) => no_sides(),
+        Head::Irr(_) => no_sides(),
+        Head::Dis(_, _) => no_sides(),
+        Head::In(_, _) => no_sides(),
+        Head::Rel(_, _, _) => no_sides(),
+        Head::NoRel(_, _, _) => no_sides(),
+        Head::Same(_, _) => no_sides(),
+        Head::Differ(_, _) => no_sides(),
+    }
+}
+
+// The rule of an accepted sheet with the number k, from 0.
+fn rule_at(sheet: &[u8], t: Table, k: usize) -> RuleLine
+    requires { ⌜ Roomy t × Accepts (now sheet) t ⌝ }
+    ensures { λ r. ⌜ Of (now (sheet .entry)) t (λ x. RuleFound (r .found) x k r) ⌝ }
+{
+    let mut q = sheet::pass::first(sheet, t);
+    let mut n = 0;
+    while q.found {
+        if n == k {
+            return q;
+        }
+        n += 1;
+        q = sheet::pass::next(sheet, t, q.past, q.line + 1);
+    }
+    q
+}
+
+// The sides of the rule with the number k, if it is `sub` with concept names and the item a breaks it.
+pub fn broken(sheet: &[u8], t: Table, words: &[u64], k: usize, a: usize) -> Sides
+    requires { ⌜ Judges (now sheet) t (now words) ⌝ }
+    ensures { λ r. ⌜ Breaking (now (sheet .entry)) t (now (words .entry)) k a r ⌝ }
+{
+    let q = rule_at(sheet, t, k);
+    if !q.found {
+        return no_sides();
+    }
+    let u = q.rule;
+    let s = sides(u);
+    if !s.named {
+        return no_sides();
+    }
+    let counts = t.counts;
+    let at = closure::entry::layout();
+    let left = Statement::In(Item(a), Concept(s.left));
+    if !closure::look::told(words, at, counts, left) {
+        return no_sides();
+    }
+    let right = Statement::In(Item(a), Concept(s.right));
+    if closure::look::told(words, at, counts, right) {
+        return no_sides();
+    }
+    s
+}
+
+// Reads a sheet into the lent store, and lists statement lines from which it follows that the item a is in the left concept of the rule with the number k, and from no part of them with a line
+// taken out: the first ones as far as the list reaches; says how many they are in all, and the right concept, in which the item is not; or why not.
+pub fn explain(sheet: &[u8], words: &mut [u64], k: usize, a: usize, room: &mut [u32]) -> Pointed
+    ensures { λ r. ⌜ Points (now (sheet .entry)) (now (words .entry)) (now (words .exit)) k a (now (room .entry)) (now (room .exit)) r ⌝ }
+{
+    if words.len() != Store::WORDS {
+        return Pointed::Refused(0, 1);
+    }
+    let e = sheet::sheets::fill(sheet, words);
+    if e.why != 0 {
+        return Pointed::Refused(e.line, e.why);
+    }
+    let kept = e.kept;
+    let t = kept.table;
+    let s = broken(sheet, t, words, k, a);
+    if !s.named {
+        return Pointed::Refused(0, 25);
+    }
+    let left = Statement::In(Item(a), Concept(s.left));
+    let total = crate::list(sheet, t, left, room);
+    Pointed::Lines(total, Concept(s.right))
+}

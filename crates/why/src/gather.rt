@@ -1,0 +1,40 @@
+// The statements of a sheet as numbers, and a reason among them.
+ghost use mathlib.Core.Path.{_≡_};
+ghost use lib.ListN.{length};
+ghost use Rattle.closure.specs.Cell.{cellOf};
+ghost use Rattle.sheet.specs.Pass.{Accepts};
+ghost use Rattle.sheet.specs.Table.{Roomy};
+ghost use Rattle.reason.specs.Picked.{markWords};
+ghost use Rattle.reason.specs.Promise.{Clear};
+ghost use Rattle.why.specs.Asked.{Asked, ReasonMarked};
+ghost use Rattle.why.specs.Gather.{Gathered, statementLimit};
+use closure::Statement;
+use reason::Lines;
+use sheet::Table;
+
+// Keeps the statements of an accepted sheet as numbers; says how many they are.
+fn gather(sheet: &[u8], t: Table, codes: &mut [u32; Lines::MOST]) -> usize
+    requires { ⌜ Roomy t × Accepts (now sheet) t × (length (now codes) ≡ statementLimit) ⌝ }
+    ensures { λ r. ⌜ Gathered (now (sheet .entry)) t (now (codes .exit)) r ⌝ }
+{
+    let mut q = crate::stating::first(sheet, t);
+    let mut n = 0;
+    while q.found {
+        let s = q.statement;
+        codes[n] = reason::code::code(s);
+        n += 1;
+        q = crate::stating::next(sheet, t, q.past, q.line + 1);
+    }
+    n
+}
+
+// Marks, of the statements of an accepted sheet, a reason for the cell that `cell` states, which follows from them.
+pub fn reasoned(sheet: &[u8], t: Table, cell: Statement, marks: &mut [u64; Lines::WORDS])
+    requires { ⌜ Asked (now sheet) t (cellOf cell) × (length (now marks) ≡ markWords) × Clear (now marks) ⌝ }
+    ensures { λ _. ⌜ ReasonMarked (now (sheet .entry)) t (cellOf cell) (now (marks .exit)) ⌝ }
+{
+    let counts = t.counts;
+    let mut codes = [0u32; Lines::MOST];
+    let n = gather(sheet, t, &mut codes);
+    reason::explain(&codes[..n], counts, cell, marks);
+}

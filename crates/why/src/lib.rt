@@ -1,0 +1,128 @@
+// Why a cell is true: statement lines of a sheet from which it follows, and from no part of them with a line taken out.
+pub mod finding;
+pub mod gather;
+pub mod stating;
+
+ghost use mathlib.Core.Path.{_≡_};
+ghost use Prim.Native.Nat.{_*_, _≤_, _<_};
+ghost use Rattle.row.specs.Row.{rowHasb};
+ghost use Rattle.closure.specs.Cell.{cellOf};
+ghost use Rattle.sheet.specs.Pass.{Accepts};
+ghost use Rattle.sheet.specs.Table.{Roomy};
+ghost use Rattle.reason.specs.Picked.{markWords};
+ghost use Rattle.why.specs.Asked.{Asked};
+ghost use Rattle.why.specs.Promise.{Explains};
+ghost use Rattle.why.specs.Writing.{Answered, Lists, PutIf};
+use closure::Concept;
+use closure::Statement;
+use closure::Store;
+use reason::Lines;
+use sheet::Table;
+
+// The next statement of a sheet: whether there is one, the number of its line, the place past that line, and the statement.
+pub struct StatementLine {
+    pub found: bool,
+    pub line: usize,
+    pub past: usize,
+    pub statement: Statement,
+}
+
+// What asking why a cell is true gives.
+pub enum Explained {
+    // How many lines there are in all.
+    Lines(usize),
+    // The line and the number of refusal; line 0 is the whole sheet, and the line of 24.
+    Refused(usize, usize),
+}
+
+// What asking why an item is a finding gives.
+pub enum Pointed {
+    // How many lines there are in all, and the concept in which the item is not.
+    Lines(usize, Concept),
+    // The line and the number of refusal; line 0 is the whole sheet, and the line of 25.
+    Refused(usize, usize),
+}
+
+// The concept of a node, if it is a name.
+pub struct NodeName {
+    pub named: bool,
+    pub concept: usize,
+}
+
+// The concepts on the sides of a rule, if it is `sub` with concept names.
+pub struct Sides {
+    pub named: bool,
+    pub left: usize,
+    pub right: usize,
+}
+
+// Whether the statement at the place n is marked.
+pub fn has(marks: &[u64; Lines::WORDS], n: usize) -> bool
+    requires { ⌜ n < 64 * markWords ⌝ }
+    ensures { λ r. ⌜ r ≡ rowHasb (now (marks .entry)) n ⌝ }
+{
+    let h = n / 64;
+    row::bit::has_bit(marks[h], (n % 64) as u64)
+}
+
+// Puts a line's number into the list at the place i, if `on` and if the list reaches so far; the place after it.
+fn put(list: &mut [u32], i: usize, line: usize, on: bool) -> usize
+    requires { ⌜ (i ≤ 65536) × (line ≤ 65536) ⌝ }
+    ensures { λ r. ⌜ PutIf on i line (now (list .entry)) (now (list .exit)) r ⌝ }
+{
+    if !on {
+        return i;
+    }
+    if i < list.len() {
+        list[i] = line as u32;
+        return i + 1;
+    }
+    i + 1
+}
+
+// Lists the lines of the statements marked, as far as the list reaches; says how many they are in all.
+fn write(sheet: &[u8], t: Table, marks: &[u64; Lines::WORDS], list: &mut [u32]) -> usize
+    requires { ⌜ Roomy t × Accepts (now sheet) t ⌝ }
+    ensures { λ r. ⌜ Lists (now (sheet .entry)) t (now (marks .entry)) (now (list .entry)) (now (list .exit)) r ⌝ }
+{
+    let mut q = stating::first(sheet, t);
+    let mut n = 0;
+    let mut total = 0;
+    while q.found {
+        total = put(list, total, q.line, has(marks, n));
+        n += 1;
+        q = stating::next(sheet, t, q.past, q.line + 1);
+    }
+    total
+}
+
+// Lists a reason for a cell that follows from the statements of an accepted sheet; says how many lines it has.
+pub fn list(sheet: &[u8], t: Table, cell: Statement, room: &mut [u32]) -> usize
+    requires { ⌜ Asked (now sheet) t (cellOf cell) ⌝ }
+    ensures { λ r. ⌜ Answered (now (sheet .entry)) t (cellOf cell) (now (room .entry)) (now (room .exit)) r ⌝ }
+{
+    let mut marks = [0u64; Lines::WORDS];
+    gather::reasoned(sheet, t, cell, &mut marks);
+    write(sheet, t, &marks, room)
+}
+
+// Reads a sheet into the lent store, and lists statement lines from which a cell follows, and from no part of them with a line taken out: the first ones as far as the list reaches; says how
+// many they are in all, or why not. The cell is given as the statement that states it.
+pub fn explain(sheet: &[u8], words: &mut [u64], cell: Statement, room: &mut [u32]) -> Explained
+    ensures { λ r. ⌜ Explains (now (sheet .entry)) (now (words .entry)) (now (words .exit)) (cellOf cell) (now (room .entry)) (now (room .exit)) r ⌝ }
+{
+    if words.len() != Store::WORDS {
+        return Explained::Refused(0, 1);
+    }
+    let e = sheet::sheets::fill(sheet, words);
+    if e.why != 0 {
+        return Explained::Refused(e.line, e.why);
+    }
+    let kept = e.kept;
+    let t = kept.table;
+    let counts = t.counts;
+    if !closure::look::told(words, closure::entry::layout(), counts, cell) {
+        return Explained::Refused(0, 24);
+    }
+    Explained::Lines(list(sheet, t, cell, room))
+}
