@@ -34,7 +34,7 @@ fn name(sheet: &[u8], t: Table, a: Item) -> &[u8]
 }
 
 // Writes a number after a tab.
-fn put_number(room: &mut [u8], at: usize, n: usize) -> usize
+pub fn put_number(room: &mut [u8], at: usize, n: usize) -> usize
     requires { ⌜ at < 900000 ⌝ }
     ensures { λ r. ⌜ (Wrote (now (room .entry)) at (tabbed (decimal n)) (now (room .exit)) r) × (r ≤ at + 21) ⌝ }
 {
@@ -43,7 +43,7 @@ fn put_number(room: &mut [u8], at: usize, n: usize) -> usize
 }
 
 // Writes the name of an item after a tab.
-fn put_name(sheet: &[u8], t: Table, a: Item, room: &mut [u8], at: usize) -> usize
+pub fn put_name(sheet: &[u8], t: Table, a: Item, room: &mut [u8], at: usize) -> usize
     requires { ⌜ at < 900000 ⌝ }
     ensures { λ r. ⌜ (Wrote (now (room .entry)) at (tabbed (getD (namesOf (now (sheet .entry)) t .items) (a .0) [])) (now (room .exit)) r) × (r ≤ at + 32) ⌝ }
 {

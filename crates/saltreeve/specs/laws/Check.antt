@@ -1,22 +1,16 @@
 -- Laws of the sheet check. Assumes nothing.
-use mathlib.Core.Path.{_≡_, refl, sym, ap, ap₂, _∙_, subst}
+use mathlib.Core.Path.{_≡_, refl, sym, ap, _∙_, subst}
 use mathlib.Core.List.{List, _++_}
 use Prim.Native.Nat.{ℕ, _+_, _≤_, _<_}
 use native.Mathlib.Omega.{arith}
 use lib.IntN.{ℤ, pos, negℤ}
 use lib.ListN.{length, drop, take}
-use lib.Seq.{sets-eq, take-append-seam}
 use Rattle.text.specs.Text.{Wrote}
+use Rattle.text.specs.laws.Text.{wrote-text, wrote-whole}
 use Rattle.sheet.specs.laws.Unique.{prints-unique}
 use Rattle.report.specs.Lines.{Pages}
 use Rattle.saltreeve.specs.Check.{Checks}
 use Rattle.saltreeve.specs.Check.Checks.{too-long, written}
-
--- a text that was written at the start of a room in which it has place
-wrote-whole : {room exit text : List ℕ} {r : ℕ} → Wrote room 0 text exit r → length text ≤ length room → exit ≡ text ++ drop (length text) room
-wrote-whole {room} {text = text} w h =
-    let z : 0 + length text ≡ length text = omega arith in
-    w .here ∙ sets-eq text room 0 (omega arith) ∙ rw z
 
 module _ {sheet own page : List ℕ} {n : ℕ} (w : Pages sheet own page n) where
   pub check-long : {room : List ℕ} → length room < n → Checks sheet room room (negℤ (pos 8))
@@ -25,10 +19,7 @@ module _ {sheet own page : List ℕ} {n : ℕ} (w : Pages sheet own page n) wher
   module _ (long : length own ≡ 18700) where
     -- the first bytes of the page are the text
     page-text : take n page ≡ w .text
-    page-text =
-        let e : n ≡ length (w .text) = omega (arith, w .wrote .next) in
-        let z = wrote-whole (w .wrote) (omega (arith, w .short)) in
-        ap₂ {C = List ℕ} (λ k l. take k l) e z ∙ take-append-seam (w .text) _
+    page-text = wrote-text (w .wrote) (omega (arith, w .short))
 
     pub page-length : length (take n page) ≡ n
     page-length = omega (arith, ap length page-text, w .wrote .next)

@@ -1,5 +1,5 @@
 -- Laws of written text and of decimal numbers. Assumes nothing.
-use mathlib.Core.Path.{_≡_, refl, _∙_}
+use mathlib.Core.Path.{_≡_, refl, ap₂, _∙_}
 use mathlib.Core.Bool.{Bool, true, false, cond}
 use mathlib.Core.List.{List, [], _∷_, _++_}
 use Prim.Native.Nat.{ℕ, zero, suc, _+_, _*_, _/_, _%_, _<_, _≤_, _^_, zero-le}
@@ -8,8 +8,8 @@ use native.Mathlib.Numerals.{add-one}
 use native.Mathlib.Omega.{arith}
 use borrow.Author.Tests.{lt-ltb, le-ltb, ltb-false}
 use lib.Dec.{ltb, lit≤}
-use lib.ListN.{length, set, getD, drop, length-append, drop-of-length-le}
-use lib.Seq.{sets, drop-cons}
+use lib.ListN.{length, set, getD, take, drop, length-append, drop-of-length-le}
+use lib.Seq.{sets, sets-eq, drop-cons, take-append-seam}
 use Rattle.text.specs.Text.{digits, decimal, Wrote}
 
 -- writing one text after the other
@@ -78,3 +78,16 @@ decimal-short n h = digits-short 19 (suc n) n (lt-of-lt-of-le h (lit≤ tt))
 -- no text
 pub wrote-none : (room : List ℕ) (at : ℕ) → Wrote room at [] room at
 wrote-none room at = record { here = refl; next = omega arith }
+
+-- a text that was written at the start of a room in which it has place
+pub wrote-whole : {room exit text : List ℕ} {r : ℕ} → Wrote room 0 text exit r → length text ≤ length room → exit ≡ text ++ drop (length text) room
+wrote-whole {room} {text = text} w h =
+    let z : 0 + length text ≡ length text = omega arith in
+    w .here ∙ sets-eq text room 0 (omega arith) ∙ rw z
+
+-- it is then the first bytes of the room
+pub wrote-text : {room exit text : List ℕ} {r : ℕ} → Wrote room 0 text exit r → r ≤ length room → take r exit ≡ text
+wrote-text {room} {exit} {text} {r} w h =
+    let e : r ≡ length text = omega (arith, w .next) in
+    let z : exit ≡ text ++ drop (length text) room = wrote-whole w (omega (arith, e)) in
+    ap₂ {C = List ℕ} (λ k l. take k l) e z ∙ take-append-seam text _

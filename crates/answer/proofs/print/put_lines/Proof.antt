@@ -1,0 +1,101 @@
+-- `answer::print::put_lines` meets its contract. Assumes nothing.
+use native.Mathlib.Omega.{arith}
+use mathlib.Core.Path.{_≡_, refl, sym, ap, _∙_}
+use mathlib.Core.Bool.{Bool, false, cond}
+use Prim.Native.Nat.{_+_, _-_, _*_, _≤_, zero-le}
+use lib.ListN.{length}
+use Rattle.row.specs.Row.{rowHasb}
+use Rattle.text.specs.laws.Split.{end-ge, end-le}
+use Rattle.sheet.specs.Said.{Said, outcome}
+use Rattle.sheet.specs.Said.Outcome.{accepted}
+use Rattle.answer.specs.laws.Writing.{Written, one-at-most, part-length, room-grows, sheet-short, standing-start, written-end, written-few, written-next, written-start}
+use borrow.Author.Needs.{needs}
+use Rattle.answer.proofs.print.put_lines.Statement.{statement}
+use Rattle.answer.proofs.print.put_lines.Tie as tie
+
+abbrev Inv-loop : tie.InvT-loop
+Inv-loop sheet marks room₀ at₀ line₀ n₀ p₀ room at line n p = ((x : Said) → outcome sheet ≡ accepted x → Written sheet x marks room₀ room p n at line) × (line ≤ at + 2) × (p .at ≤ 15 * at) × (p .total ≤ at) × (n ≤ at) × (at ≤ length sheet + 1) × (length room ≡ length room₀)
+
+abbrev μ-loop : tie.MeasureT-loop
+μ-loop sheet marks room₀ at₀ line₀ n₀ p₀ room at line n p = length sheet + 1 - at
+
+end-of-requires : tie.Need-end-of-requires Inv-loop μ-loop
+end-of-requires c κs = tt
+
+add-at : tie.Need-add-at Inv-loop μ-loop
+add-at c = omega (arith, (c .end-of .ensures), end-le 10 (c .before .before .before .args .sheet .now) 0 zero-le, sheet-short (c .before .before .before .pre))
+
+loop-holds : tie.Need-loop-holds Inv-loop μ-loop
+loop-holds c = ((λ x o. written-start (standing-start (c .before .before .before .args .sheet .now) x _ (c .end-of .ensures) o)), omega arith, omega arith, omega arith, omega arith, omega (arith, (c .end-of .ensures), end-le 10 (c .before .before .before .args .sheet .now) 0 zero-le), refl)
+
+end-of-requires-2 : tie.Need-end-of-requires-2 Inv-loop μ-loop
+end-of-requires-2 c κs = tt
+
+sub-part : tie.Need-sub-part Inv-loop μ-loop
+sub-part c = omega (arith, (c .end-of2 .ensures), end-ge 10 (c .before .before .before .before .before .before .args .sheet .now) (c .before .before .loop .at))
+
+part-requires : tie.Need-part-requires Inv-loop μ-loop
+part-requires c κs = tt
+
+is-statement-requires : tie.Need-is-statement-requires Inv-loop μ-loop
+is-statement-requires c κs = tt
+
+marked-if-requires : tie.Need-marked-if-requires Inv-loop μ-loop
+marked-if-requires c κs = λ e. omega (arith, (c .before .before .before .before .before .before .before .before .pre .few), written-few ((c .before .before .before .before .loop .inv .0) (c .before .before .before .before .before .before .before .before .pre .said) (c .before .before .before .before .before .before .before .before .pre .ends)) _ _ (omega (arith, (c .before .before .before .loop-test .taken))) (c .before .before .end-of2 .ensures) (c .before .part .ensures) (sym (c .is-statement .ensures) ∙ e))
+
+put-line-if-requires : tie.Need-put-line-if-requires Inv-loop μ-loop
+put-line-if-requires c κs = (omega (arith, (c .before .before .before .before .before .before .loop .inv .2), (c .before .before .before .before .before .before .loop .inv .5), sheet-short (c .before .before .before .before .before .before .before .before .before .before .pre)), omega (arith, (c .before .before .before .before .before .before .loop .inv .3), (c .before .before .before .before .before .before .loop .inv .5), sheet-short (c .before .before .before .before .before .before .before .before .before .before .pre)), omega (arith, part-length (c .before .before .before .before .before .before .before .before .before .before .args .sheet .now) (c .before .before .before .before .before .before .loop .at) (c .before .before .before .before .end-of2 .result) (c .before .before .before .part .ensures), (c .before .before .before .before .end-of2 .ensures), end-le 10 (c .before .before .before .before .before .before .before .before .before .before .args .sheet .now) (c .before .before .before .before .before .before .loop .at) (omega (arith, (c .before .before .before .before .before .loop-test .taken))), sheet-short (c .before .before .before .before .before .before .before .before .before .before .pre)))
+
+more-if-requires : tie.Need-more-if-requires Inv-loop μ-loop
+more-if-requires c κs = omega (arith, (c .before .before .before .before .before .before .before .before .before .loop .inv .4), (c .before .before .before .before .before .before .before .before .before .loop .inv .5), sheet-short (c .before .before .before .before .before .before .before .before .before .before .before .before .before .pre))
+
+add-line : tie.Need-add-line Inv-loop μ-loop
+add-line c = omega (arith, (c .before .before .before .before .before .before .before .before .before .before .loop .inv .1), (c .before .before .before .before .before .before .before .before .before .before .loop .inv .5), sheet-short (c .before .before .before .before .before .before .before .before .before .before .before .before .before .before .pre))
+
+add-at-2 : tie.Need-add-at-2 Inv-loop μ-loop
+add-at-2 c = omega (arith, (c .before .before .before .before .before .before .before .before .end-of2 .ensures), end-le 10 (c .before .before .before .before .before .before .before .before .before .before .before .before .before .before .args .sheet .now) (c .before .before .before .before .before .before .before .before .before .before .loop .at) (omega (arith, (c .before .before .before .before .before .before .before .before .before .loop-test .taken))), sheet-short (c .before .before .before .before .before .before .before .before .before .before .before .before .before .before .pre))
+
+loop-less : tie.Need-loop-less Inv-loop μ-loop
+loop-less c = omega (arith, (c .before .before .before .before .before .before .before .before .end-of2 .ensures), end-ge 10 (c .before .before .before .before .before .before .before .before .before .before .before .before .before .before .args .sheet .now) (c .before .before .before .before .before .before .before .before .before .before .loop .at), (c .before .before .before .before .before .before .before .before .before .loop-test .taken))
+
+loop-again : tie.Need-loop-again Inv-loop μ-loop
+loop-again c = 
+    let long = part-length (c .before .before .before .before .before .before .before .before .before .before .before .before .before .before .args .sheet .now) (c .before .before .before .before .before .before .before .before .before .before .loop .at) (c .before .before .before .before .before .before .before .before .end-of2 .result) (c .before .before .before .before .before .before .before .part .ensures) in
+    let past = end-ge 10 (c .before .before .before .before .before .before .before .before .before .before .before .before .before .before .args .sheet .now) (c .before .before .before .before .before .before .before .before .before .before .loop .at) in
+    ((λ x o. written-next ((c .before .before .before .before .before .before .before .before .before .before .loop .inv .0) x o) _ _ (omega (arith, (c .before .before .before .before .before .before .before .before .before .loop-test .taken))) (c .before .before .before .before .before .before .before .before .end-of2 .ensures) (c .before .before .before .before .before .before .before .part .ensures) _ ((c .before .before .before .before .before .marked-if .ensures) ∙ ap (λ (s : Bool). cond s (rowHasb (c .before .before .before .before .before .before .before .before .before .before .before .before .before .before .args .marks .now) (c .before .before .before .before .before .before .before .before .before .before .loop .n)) false) (c .before .before .before .before .before .before .is-statement .ensures)) (c .before .before .before .put-line-if .ensures) ((c .more-if .ensures) ∙ ap (λ (s : Bool). (c .before .before .before .before .before .before .before .before .before .before .loop .n) + cond s 1 0) (c .before .before .before .before .before .before .is-statement .ensures))),
+    omega (arith, (c .before .before .before .before .before .before .before .before .before .before .loop .inv .1), past, (c .before .before .before .before .before .before .before .before .end-of2 .ensures)),
+    room-grows _ ((c .before .before .before .before .before .marked-if .ensures) ∙ ap (λ (s : Bool). cond s (rowHasb (c .before .before .before .before .before .before .before .before .before .before .before .before .before .before .args .marks .now) (c .before .before .before .before .before .before .before .before .before .before .loop .n)) false) (c .before .before .before .before .before .before .is-statement .ensures)) (c .before .before .before .put-line-if .ensures) long (omega (arith, past, (c .before .before .before .before .before .before .before .before .end-of2 .ensures))) (c .before .before .before .before .before .before .before .before .before .before .loop .inv .2),
+    omega (arith, (c .before .before .before .put-line-if .ensures .total), one-at-most (c .before .before .before .before .before .marked-if .result), (c .before .before .before .before .before .before .before .before .before .before .loop .inv .3), past, (c .before .before .before .before .before .before .before .before .end-of2 .ensures)),
+    omega (arith, (c .more-if .ensures), one-at-most (c .before .before .before .before .before .before .is-statement .result), (c .before .before .before .before .before .before .before .before .before .before .loop .inv .4), past, (c .before .before .before .before .before .before .before .before .end-of2 .ensures)),
+    omega (arith, (c .before .before .before .before .before .before .before .before .end-of2 .ensures), end-le 10 (c .before .before .before .before .before .before .before .before .before .before .before .before .before .before .args .sheet .now) (c .before .before .before .before .before .before .before .before .before .before .loop .at) (omega (arith, (c .before .before .before .before .before .before .before .before .before .loop-test .taken)))),
+    (c .before .before .room .given) ∙ (c .before .before .before .before .before .before .before .before .before .before .loop .inv .6))
+
+same-length : tie.Need-same-length Inv-loop μ-loop
+same-length c = search needs
+
+returns : tie.Need-returns Inv-loop μ-loop
+returns c = 
+    record { wrote = λ x o. written-end (omega (arith, (c .loop-test .left))) ((c .before .loop .inv .0) x o) .0; total = λ x o. written-end (omega (arith, (c .loop-test .left))) ((c .before .loop .inv .0) x o) .1; short = omega (arith, (c .before .loop .inv .2), (c .before .loop .inv .5), sheet-short (c .before .before .before .before .before .pre)); few = omega (arith, (c .before .loop .inv .3), (c .before .loop .inv .5), sheet-short (c .before .before .before .before .before .pre)) }
+
+pub put-lines-spec : {M : Type 1} → statement M
+put-lines-spec =
+    tie.close
+    (tie.spec
+    Inv-loop
+    μ-loop
+    end-of-requires
+    add-at
+    loop-holds
+    end-of-requires-2
+    sub-part
+    part-requires
+    is-statement-requires
+    marked-if-requires
+    put-line-if-requires
+    more-if-requires
+    add-line
+    add-at-2
+    loop-less
+    loop-again
+    same-length
+    returns)

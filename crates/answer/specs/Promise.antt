@@ -1,0 +1,50 @@
+-- What is printed for a question about a sheet, for every sheet and every question.
+use mathlib.Core.Path.{_≡_}
+use mathlib.Core.Bool.{true, false}
+use mathlib.Core.List.{List, [], _++_, map}
+use Prim.Native.Nat.{ℕ, _≤_, _<_}
+use lib.ListN.{length, getD, drop}
+use Rattle.closure.specs.Cell.{Cell}
+use Rattle.closure.specs.Cell.Cell.{In}
+use Rattle.closure.specs.Layout.{Holds, width}
+use Rattle.sheet.specs.Names.{countsOf}
+use Rattle.sheet.specs.Promise.{Held, refusedText}
+use Rattle.sheet.specs.Said.{Said, SheetRule, SheetStatement, outcome}
+use Rattle.sheet.specs.Said.Outcome.{accepted, refused as refusedAt}
+use Rattle.why.specs.Finding.{BrokenSub}
+use Rattle.why.specs.Listed.{linesOf}
+use Rattle.why.specs.Reason.{Reason}
+use Rattle.answer.specs.Question.{AsksCell, AsksFinding, aboutFinding, bare}
+use Rattle.answer.specs.Text.{absentText, reasonText}
+
+-- the line number of the rule with the number k
+abbrev pub ruleLine : Said → ℕ → ℕ
+ruleLine x k = getD (map (λ (r : SheetRule). r .line) (x .rules)) k 0
+
+-- The text for a question. First the sheet's own refusals, as `check` prints them.
+-- Of a statement: 24 if its cell is not true or it asks for none; otherwise the lines of a reason for the cell, and their total.
+-- Of a finding: 25 if it is none of a `sub` rule with concept names on both sides; otherwise the lines of a reason for the left cell, the right cell as absent, and the total of the lines.
+pub data Answers (sheet question : List ℕ) : List ℕ → Type 0 where
+  refused : {n k : ℕ} {x : Said} → outcome sheet ≡ refusedAt n k x → Answers sheet question (refusedText n k)
+  not-true : {x : Said} {t : List ℕ} → outcome sheet ≡ accepted x → Held x t → aboutFinding (bare question) ≡ false
+      → ((c : Cell) → AsksCell (x .names) (bare question) c → ¬ (Holds width (countsOf (x .names)) t c)) → Answers sheet question (refusedText 0 24)
+  found : {x : Said} {c : Cell} {ls : List SheetStatement} → outcome sheet ≡ accepted x → aboutFinding (bare question) ≡ false → AsksCell (x .names) (bare question) c
+      → Reason (countsOf (x .names)) c (x .statements) ls → Answers sheet question (reasonText sheet (linesOf ls) [])
+  not-broken : {x : Said} {t : List ℕ} → outcome sheet ≡ accepted x → Held x t → aboutFinding (bare question) ≡ true
+      → ((k a c d : ℕ) → AsksFinding (x .names) (bare question) (ruleLine x k) a → ¬ (BrokenSub (countsOf (x .names)) x t k a c d)) → Answers sheet question (refusedText 0 25)
+  broken : {x : Said} {t : List ℕ} {k a c d : ℕ} {ls : List SheetStatement} → outcome sheet ≡ accepted x → Held x t → AsksFinding (x .names) (bare question) (ruleLine x k) a
+      → BrokenSub (countsOf (x .names)) x t k a c d → Reason (countsOf (x .names)) (In a c) (x .statements) ls
+      → Answers sheet question (reasonText sheet (linesOf ls) (absentText (x .names) a d))
+
+-- a text has r bytes; it is at the start of the room if it has place there, and otherwise the room is as it was
+pub record Fitted (text room exit : List ℕ) (r : ℕ) : Type 0 where
+  pub long : r ≡ length text
+  pub written : length text ≤ length room → exit ≡ text ++ drop (length text) room
+  pub left : length room < length text → exit ≡ room
+  pub short : r ≤ 800000
+
+-- the room that was lent becomes exit, and r is the length of a text for the question
+pub record Replies (sheet question room exit : List ℕ) (r : ℕ) : Type 0 where
+  pub text : List ℕ
+  pub answers : Answers sheet question text
+  pub fitted : Fitted text room exit r

@@ -1,0 +1,232 @@
+-- Laws of taking a question apart. Assumes nothing.
+use mathlib.Core.Path.{_≡_, refl, sym, ap, _∙_, subst}
+use mathlib.Core.Bool.{Bool, true, false, cond, true≢false}
+use mathlib.Core.List.{List, [], _∷_, _++_, map}
+use Prim.Native.Nat.{ℕ, suc, _+_, _-_, _≤_, _<_, zero-le}
+use native.Mathlib.Decide.{decLt}
+use native.Mathlib.Omega.{arith}
+use borrow.Author.Tests.{eq-eqb, ne-eqb}
+use lib.ListN.{length, getD, length-append}
+use Rattle.closure.specs.declared.Counts.{Counts}
+use Rattle.closure.specs.Cell.{Cell, cellOf}
+use Rattle.text.specs.Bytes.{bytes, partOf, same}
+use Rattle.text.specs.Split.{fieldFrom, fields, partsFrom, pastField}
+use Rattle.text.specs.Text.{decimal}
+use Rattle.text.specs.laws.Bytes.{same-all, same-true}
+use Rattle.text.specs.laws.Split.{fields-next, fields-none, parts-all}
+use Rattle.sheet.specs.declared.Form.{Form}
+use Rattle.sheet.specs.declared.Form.the-variants as form
+use Rattle.sheet.specs.declared.StatementWord.{StatementWord}
+use Rattle.sheet.specs.declared.RuleLine.{RuleLine}
+use Rattle.sheet.specs.declared.Table.{Table}
+use Rattle.sheet.specs.Fault.{lineFault}
+use Rattle.sheet.specs.Names.{Names}
+use Rattle.sheet.specs.Read.{at, itemOf}
+use Rattle.sheet.specs.Said.{Said, SheetRule, outcome, statementOf}
+use Rattle.sheet.specs.Said.Outcome.{accepted}
+use Rattle.sheet.specs.Table.{namesOf}
+use Rattle.sheet.specs.Words.{Field, bodyOf, formOf}
+use Rattle.sheet.specs.Pass.{foundRule}
+use Rattle.sheet.specs.laws.Count.{Turn, turn-rules}
+use Rattle.why.specs.declared.Sides.{Sides}
+use Rattle.why.specs.Finding.{BrokenSub}
+use Rattle.why.specs.Sides.{BrokenIf}
+use Rattle.answer.specs.declared.CellAsked.{CellAsked}
+use Rattle.answer.specs.declared.FindingAsked.{FindingAsked}
+use Rattle.answer.specs.Asked.{Asking, BreakingIf, BrokenIn, FindingIf, FindingIn, FormAsked, SidesIf}
+use Rattle.answer.specs.Promise.{ruleLine}
+use Rattle.answer.specs.Question.{AsksCell, aboutFinding, amongStatements, bare}
+
+-- a line with nothing wrong with it asks for the cell that it states, if it is a statement
+pub asking-form : (n : Names) (q : List ℕ) (r : CellAsked) → lineFault n amongStatements q ≡ 0 → FormAsked n (formOf (fields q)) (bodyOf (fields q)) r → Asking (r .asked) n q r
+asking-form n q r right h = go (formOf (fields q)) refl h
+  where
+    none : (f : Form) → formOf (fields q) ≡ f → ((w : StatementWord) → f ≡ form.Statement w → ⊥) → r .asked ≡ false → Asking (r .asked) n q r
+    none f e not z = subst (λ (b : Bool). Asking b n q r) (sym z) (λ c a. not (a .word) (sym e ∙ a .form))
+
+    go : (f : Form) → formOf (fields q) ≡ f → FormAsked n f (bodyOf (fields q)) r → Asking (r .asked) n q r
+    go form.Concept e z = none form.Concept e (λ w p. let z : _≡_ {A = ℕ} 0 1 = cc in omega arith) z
+    go form.Role e z = none form.Role e (λ w p. let z : _≡_ {A = ℕ} 0 1 = cc in omega arith) z
+    go form.Item e z = none form.Item e (λ w p. let z : _≡_ {A = ℕ} 0 1 = cc in omega arith) z
+    go (form.Statement w) e z = subst (λ (b : CellAsked). Asking (b .asked) n q b) (sym z) (record { word = w; form = e; right = right; cell = refl })
+    go (form.Rule w) e z = none (form.Rule w) e (λ v p. let z : _≡_ {A = ℕ} 0 1 = cc in omega arith) z
+    go form.Bare e z = none form.Bare e (λ w p. let z : _≡_ {A = ℕ} 0 1 = cc in omega arith) z
+    go form.Unknown e z = none form.Unknown e (λ w p. let z : _≡_ {A = ℕ} 0 1 = cc in omega arith) z
+
+-- a line with something wrong with it asks for no cell
+pub asking-wrong : (n : Names) (q : List ℕ) (r : CellAsked) → (lineFault n amongStatements q ≡ 0 → ⊥) → r .asked ≡ false → Asking (r .asked) n q r
+asking-wrong n q r wrong z = subst (λ (b : Bool). Asking b n q r) (sym z) (λ c a. wrong (a .right))
+
+-- ---- the line and its fields
+
+-- the first field
+pub first-field : (q : List ℕ) → fieldFrom q 0 ≡ at 0 (fields q)
+first-field q = ap (λ (fs : List Field). at 0 fs) (sym (fields-next q 0 zero-le) ∙ parts-all 9 q)
+
+-- a line feed at the end is taken off
+pub bare-cut : (q : List ℕ) → getD q (length q - 1) 0 ≡ 10 → partOf q 0 (length q - 1) ≡ bare q
+unfolding bare
+bare-cut q e = rw (eq-eqb _ _ e)
+
+-- and where there is none, nothing is
+pub bare-whole : (q : List ℕ) → (getD q (length q - 1) 0 ≡ 10 → ⊥) → q ≡ bare q
+unfolding bare
+bare-whole q e = rw (ne-eqb _ _ e)
+
+pub bare-nothing : (q : List ℕ) → length q ≤ 0 → q ≡ bare q
+unfolding bare
+bare-nothing [] h = refl
+bare-nothing (b ∷ q) h = absurd (omega arith)
+
+-- ---- a finding
+
+-- the fields of a line that has three
+pub three-fields : (q : List ℕ) → length (fields q) ≡ 3 → fields q ≡ fieldFrom q 0 ∷ fieldFrom q (pastField q 0) ∷ fieldFrom q (pastField q (pastField q 0)) ∷ []
+three-fields q e = sym (parts-all 9 q) ∙ go
+  where
+    parts : ℕ → List Field
+    parts at = partsFrom 9 q at
+
+    -- where parts are left there is a next one
+    next : (at n : ℕ) → length (parts at) ≡ suc n → parts at ≡ fieldFrom q at ∷ parts (pastField q at)
+    next at n l = by (decLt (length q) at)
+      where
+        by : Dec (length q < at) → parts at ≡ fieldFrom q at ∷ parts (pastField q at)
+        by (yes h) = absurd (omega (arith, l, ap length (fields-none q at h)))
+        by (no h) = fields-next q at (omega arith)
+
+    fewer : (at n : ℕ) → length (parts at) ≡ suc n → length (parts (pastField q at)) ≡ n
+    fewer at n l = omega (arith, l, ap length (next at n l))
+
+    none : (fs : List Field) → length fs ≡ 0 → fs ≡ []
+    none [] l = refl
+    none (f ∷ fs) l = absurd (omega arith)
+
+    go : parts 0 ≡ fieldFrom q 0 ∷ fieldFrom q (pastField q 0) ∷ fieldFrom q (pastField q (pastField q 0)) ∷ []
+    go =
+        let a : length (parts 0) ≡ 3 = ap length (parts-all 9 q) ∙ e in
+        let b = fewer 0 2 a in
+        let c = fewer (pastField q 0) 1 b in
+        let d = fewer (pastField q (pastField q 0)) 0 c in
+        next 0 2 a ∙ ap (_∷_ (fieldFrom q 0)) (next (pastField q 0) 1 b ∙ ap (_∷_ (fieldFrom q (pastField q 0))) (next (pastField q (pastField q 0)) 0 c ∙ ap (_∷_ (fieldFrom q (pastField q (pastField q 0)))) (none _ d)))
+
+-- the field with the number of a line, and the field with a name
+abbrev pub lineField : List ℕ → Field
+lineField q = fieldFrom q (pastField q 0)
+
+abbrev pub nameField : List ℕ → Field
+nameField q = fieldFrom q (pastField q (pastField q 0))
+
+module _ (n : Counts) (x : Said) (s q : List ℕ) where
+  -- a line that has not three fields asks for no finding
+  pub finding-short : (r : FindingAsked) → (length (fields q) ≡ 3 → ⊥) → r .found ≡ false → FindingIf (r .found) n x s q r
+  finding-short r l e = subst (λ (b : Bool). FindingIf b n x s q r) (sym e) (λ a c d z. l (ap length (z .asks .is)))
+
+  -- a line that has asks for the finding of the rule and the item that it names
+  module _ (names : Names) (about : aboutFinding q ≡ true) (l : length (fields q) ≡ 3) (same-names : x .names ≡ names) where
+    first-is : fieldFrom q 0 ≡ bytes "finding"
+    unfolding aboutFinding
+    first-is = same-true _ _ (ap (λ (h : Field). same h (bytes "finding")) (first-field q) ∙ about)
+
+    fields-are : fields q ≡ bytes "finding" ∷ (lineField q) ∷ (nameField q) ∷ []
+    fields-are = three-fields q l ∙ ap (λ (h : Field). h ∷ (lineField q) ∷ (nameField q) ∷ []) first-is
+
+    second-is : {h i : Field} → fields q ≡ bytes "finding" ∷ h ∷ i ∷ [] → ((lineField q) ≡ h) × ((nameField q) ≡ i)
+    second-is e = let z = sym fields-are ∙ e in (ap (λ (fs : List Field). at 1 fs) z, ap (λ (fs : List Field). at 2 fs) z)
+
+    found-so : {a c d : ℕ} → a ≡ itemOf names (nameField q) .0 → BrokenIn n x s (lineField q) a c d → FindingIn n x s q a c d
+    found-so e z =
+        record {
+          rule = z .rule;
+          asks = record { name = (nameField q); is = fields-are ∙ ap (λ (h : Field). bytes "finding" ∷ h ∷ (nameField q) ∷ []) (same-true _ _ (z .line)); item = e ∙ ap (λ (m : Names). itemOf m (nameField q) .0) (sym same-names) };
+          broken = z .broken;
+        }
+
+    found-not : {a c d : ℕ} → a ≡ itemOf names (nameField q) .0 → (z : FindingIn n x s q a c d) → BrokenIn n x s (lineField q) (itemOf names (nameField q) .0) c d
+    found-not {c = c} {d = d} e z =
+        let w = second-is (z .asks .is) in
+        record {
+          rule = z .rule;
+          line = ap (λ (h : Field). same h (decimal (ruleLine x (z .rule)))) (w .0) ∙ same-all (decimal (ruleLine x (z .rule))) _ refl (λ i h. refl);
+          broken = subst (λ (i : ℕ). BrokenSub n x s (z .rule) i c d) e (z .broken);
+        }
+
+    pub finding-sides : (t : Sides) (a : ℕ) → a ≡ itemOf names (nameField q) .0 → SidesIf (t .named) n x s (lineField q) a t → FindingIf (t .named) n x s q (record { found = t .named; item = a; left = t .left; right = t .right })
+    finding-sides t a e z = go (t .named) z
+      where
+        go : (b : Bool) → SidesIf b n x s (lineField q) a t → FindingIf b n x s q (record { found = t .named; item = a; left = t .left; right = t .right })
+        go true w = found-so e w
+        go false w =
+            λ i c d v.
+            let u = second-is (v .asks .is) in
+            let h : i ≡ itemOf names (nameField q) .0 = v .asks .item ∙ ap (λ (m : Names). itemOf m (v .asks .name) .0) same-names ∙ ap (λ (l : Field). itemOf names l .0) (sym (u .1)) in
+            w c d (subst (λ (j : ℕ). BrokenIn n x s (lineField q) j c d) (sym e) (found-not h v))
+
+-- ---- the rules of the sheet, one after the other
+
+-- none of the first m rules is in the line that f says and broken by the item a
+pub record NoneYet (n : Counts) (x : Said) (s : List ℕ) (f : Field) (a m : ℕ) : Type 0 where
+  pub none : (k c d : ℕ) → k < m → same f (decimal (ruleLine x k)) ≡ true → ¬ (BrokenSub n x s k a c d)
+
+-- the line of the rule after those done
+pub rule-line : (x : Said) (done rest : List SheetRule) (l : SheetRule) (k : ℕ) → x .rules ≡ done ++ l ∷ rest → k ≡ length done → ruleLine x k ≡ l .line
+rule-line x done rest l k e h = ap (λ (rs : List SheetRule). getD (map (λ (r : SheetRule). r .line) rs) k 0) e ∙ ap (λ (i : ℕ). getD (map (λ (r : SheetRule). r .line) (done ++ l ∷ rest)) i 0) h ∙ at-end done
+  where
+    at-end : (ls : List SheetRule) → getD (map (λ (r : SheetRule). r .line) (ls ++ l ∷ rest)) (length ls) 0 ≡ l .line
+    at-end [] = refl
+    at-end (i ∷ ls) = at-end ls
+
+module _ (n : Counts) (x : Said) (s : List ℕ) (f : Field) (a : ℕ) where
+  pub none-start : NoneYet n x s f a 0
+  none-start = record { none = λ k c d h. absurd (omega arith) }
+
+  -- no rule is left
+  pub none-all : NoneYet n x s f a (length (x .rules)) → (c d : ℕ) → ¬ (BrokenIn n x s f a c d)
+  none-all z c d w =
+      let t = w .broken .there in
+      z .none (w .rule) c d (omega (arith, t .place, ap length (t .is), length-append (t .before) (record { line = t .line; rule = w .broken .rule } ∷ t .after))) (w .line) (w .broken)
+
+  module _ {sheet : List ℕ} {t : Table} {m line : ℕ} {on : Bool} {r : Sides} (is : ruleLine x m ≡ line) (said : on ≡ same f (decimal line)) (o : outcome sheet ≡ accepted x) (e : x .names ≡ namesOf sheet t)
+      (counts : n ≡ t .counts) (z : BreakingIf on sheet t s m a r) where
+    broken-if : on ≡ true → BrokenIf (r .named) n x s m a r
+    broken-if h = subst (λ (i : Counts). BrokenIf (r .named) i x s m a r) (sym counts) (z .breaking h x o e)
+
+    -- one rule more that is not
+    pub none-more : r .named ≡ false → NoneYet n x s f a m → NoneYet n x s f a (m + 1)
+    none-more h w = record { none = none }
+      where
+        none : (k c d : ℕ) → k < m + 1 → same f (decimal (ruleLine x k)) ≡ true → ¬ (BrokenSub n x s k a c d)
+        none k c d l b = by (decLt k m)
+          where
+            by : Dec (k < m) → ¬ (BrokenSub n x s k a c d)
+            by (yes g) = w .none k c d g b
+            by (no g) =
+                let i : k ≡ m = omega arith in
+                let y : on ≡ true = said ∙ ap (λ (j : ℕ). same f (decimal j)) (sym is ∙ ap (ruleLine x) (sym i)) ∙ b in
+                subst (λ (j : ℕ). ¬ (BrokenSub n x s j a c d)) (sym i) (subst (λ (v : Bool). BrokenIf v n x s m a r) h (broken-if y) c d)
+
+    -- a rule that is
+    pub some-broken : r .named ≡ true → BrokenIn n x s f a (r .left) (r .right)
+    some-broken h = by on refl
+      where
+        by : (b : Bool) → on ≡ b → BrokenIn n x s f a (r .left) (r .right)
+        by true y = record { rule = m; line = ap (λ (j : ℕ). same f (decimal j)) is ∙ sym said ∙ y; broken = subst (λ (v : Bool). BrokenIf v n x s m a r) h (broken-if y) }
+        by false y = absurd (true≢false (sym h ∙ z .none y))
+
+-- one rule more that is not, in its turn
+pub none-turn : {sheet : List ℕ} {t : Table} {x : Said} {s : List ℕ} {f : Field} {a n : ℕ} {q : RuleLine} {on : Bool} {r : Sides} (w : Turn sheet t x (λ (done : List SheetRule). NoneYet (t .counts) x s f a (length done)) q n)
+    → q .found ≡ true → on ≡ same f (decimal (q .line)) → outcome sheet ≡ accepted x → x .names ≡ namesOf sheet t → BreakingIf on sheet t s n a r → r .named ≡ false
+    → NoneYet (t .counts) x s f a (length (w .done ++ foundRule q ∷ []))
+none-turn {t = t} {x = x} {s = s} {f = f} {a = a} {n = n} {q = q} w found said o e z h =
+    let y = turn-rules w found in
+    let l : n + 1 ≡ length (w .done ++ foundRule q ∷ []) = omega (arith, w .number, length-append (w .done) (foundRule q ∷ [])) in
+    subst (λ (k : ℕ). NoneYet (t .counts) x s f a k) l
+    (none-more (t .counts) x s f a (rule-line x (w .done) (y .0) (foundRule q) n (y .1) (w .number)) said o e refl z h (subst (λ (k : ℕ). NoneYet (t .counts) x s f a k) (sym (w .number)) (w .holds)))
+
+-- a rule that is, in its turn
+pub some-turn : {sheet : List ℕ} {t : Table} {x : Said} {s : List ℕ} {f : Field} {a n : ℕ} {q : RuleLine} {on : Bool} {r : Sides} (w : Turn sheet t x (λ (done : List SheetRule). NoneYet (t .counts) x s f a (length done)) q n)
+    → q .found ≡ true → on ≡ same f (decimal (q .line)) → outcome sheet ≡ accepted x → x .names ≡ namesOf sheet t → BreakingIf on sheet t s n a r → r .named ≡ true
+    → BrokenIn (t .counts) x s f a (r .left) (r .right)
+some-turn {t = t} {x = x} {s = s} {f = f} {a = a} {n = n} {q = q} w found said o e z h =
+    let y = turn-rules w found in
+    some-broken (t .counts) x s f a (rule-line x (w .done) (y .0) (foundRule q) n (y .1) (w .number)) said o e refl z h

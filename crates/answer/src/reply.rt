@@ -1,0 +1,110 @@
+// The answer to a question about a sheet, as text.
+ghost use mathlib.Core.Path.{_≡_};
+ghost use mathlib.Core.Bool.{true};
+ghost use Rattle.closure.specs.Cell.{cellOf};
+ghost use Rattle.sheet.specs.Promise.{refusedText};
+ghost use Rattle.sheet.specs.Table.{namesOf};
+ghost use Rattle.why.specs.Asked.{Asked, Of};
+ghost use Rattle.answer.specs.Promise.{Fitted, Replies};
+ghost use Rattle.answer.specs.Question.{aboutFinding};
+ghost use Rattle.answer.specs.Writing.{Accepted, CellReply, FindingReply, Known, ReasonFits, ReasonSaid};
+use crate::Absent;
+use closure::Concept;
+use closure::Item;
+use closure::Statement;
+use closure::Store;
+use reason::Lines;
+use sheet::Table;
+
+// Writes the line of a refusal, if it has place in the room; gives its length.
+fn refuse(room: &mut [u8], line: usize, why: usize) -> usize
+    ensures { λ r. ⌜ Fitted (refusedText line why) (now (room .entry)) (now (room .exit)) r ⌝ }
+{
+    let mut own = [0u8; 1];
+    let n = report::print::refused(&mut own, 0, line, why);
+    if room.len() < n {
+        return n;
+    }
+    report::print::refused(room, 0, line, why)
+}
+
+// Writes the text of the statements marked, if it has place in the room; gives its length.
+fn fit(sheet: &[u8], t: Table, marks: &[u64; Lines::WORDS], a: Absent, room: &mut [u8]) -> usize
+    requires { ⌜ Accepted (now sheet) ⌝ }
+    ensures { λ r. ⌜ ReasonFits (now (sheet .entry)) (namesOf (now (sheet .entry)) t) a (now (marks .entry)) (now (room .entry)) (now (room .exit)) r ⌝ }
+{
+    let mut own = [0u8; 1];
+    let n = crate::print::put_reason(sheet, t, marks, a, &mut own);
+    if room.len() < n {
+        return n;
+    }
+    crate::print::put_reason(sheet, t, marks, a, room)
+}
+
+// Writes the text of a reason for a cell that follows, with what is absent, if it has place in the room; gives its length.
+fn explain(sheet: &[u8], t: Table, cell: Statement, a: Absent, room: &mut [u8]) -> usize
+    requires { ⌜ Asked (now sheet) t (cellOf cell) ⌝ }
+    ensures { λ r. ⌜ Of (now (sheet .entry)) t (λ x. ReasonSaid (now (sheet .entry)) x (t .counts) (cellOf cell) a (now (room .entry)) (now (room .exit)) r) ⌝ }
+{
+    let mut marks = [0u64; Lines::WORDS];
+    why::gather::reasoned(sheet, t, cell, &mut marks);
+    fit(sheet, t, &marks, a, room)
+}
+
+// Answers a question for a cell.
+fn cell(sheet: &[u8], t: Table, words: &[u64], q: &[u8], room: &mut [u8]) -> usize
+    requires { ⌜ Known (now sheet) t (now words) ⌝ }
+    ensures { λ r. ⌜ CellReply (now (sheet .entry)) (now (q .entry)) (now (room .entry)) (now (room .exit)) r ⌝ }
+{
+    let c = crate::ask::cell(sheet, t, q);
+    if !c.asked {
+        return refuse(room, 0, 24);
+    }
+    let s = c.cell;
+    let counts = t.counts;
+    if !closure::look::told(words, closure::entry::layout(), counts, s) {
+        return refuse(room, 0, 24);
+    }
+    let a = Absent {
+        on: false,
+        item: 0,
+        concept: 0,
+    };
+    explain(sheet, t, s, a, room)
+}
+
+// Answers a question for a finding.
+fn finding(sheet: &[u8], t: Table, words: &[u64], q: &[u8], room: &mut [u8]) -> usize
+    requires { ⌜ Known (now sheet) t (now words) × (aboutFinding (now q) ≡ true) ⌝ }
+    ensures { λ r. ⌜ FindingReply (now (sheet .entry)) (now (q .entry)) (now (room .entry)) (now (room .exit)) r ⌝ }
+{
+    let f = crate::ask::finding(sheet, t, words, q);
+    if !f.found {
+        return refuse(room, 0, 25);
+    }
+    let left = Statement::In(Item(f.item), Concept(f.left));
+    let a = Absent {
+        on: true,
+        item: f.item,
+        concept: f.right,
+    };
+    explain(sheet, t, left, a, room)
+}
+
+// Answers a question about a sheet: writes the text to the room, if it has place there; gives its length.
+pub fn reply(sheet: &[u8], question: &[u8], room: &mut [u8]) -> usize
+    ensures { λ r. ⌜ Replies (now (sheet .entry)) (now (question .entry)) (now (room .entry)) (now (room .exit)) r ⌝ }
+{
+    let mut words = [0u64; Store::WORDS];
+    let e = sheet::sheets::fill(sheet, &mut words);
+    if e.why != 0 {
+        return refuse(room, e.line, e.why);
+    }
+    let kept = e.kept;
+    let t = kept.table;
+    let q = crate::ask::bare(question);
+    if crate::ask::about_finding(q) {
+        return finding(sheet, t, &words, q, room);
+    }
+    cell(sheet, t, &words, q, room)
+}

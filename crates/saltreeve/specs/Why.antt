@@ -1,0 +1,59 @@
+-- What the host gets for a question: the text, or minus 8 where it is longer than the room; and reasons by number.
+use mathlib.Core.Path.{_≡_}
+use mathlib.Core.Bool.{true, false, cond}
+use mathlib.Core.List.{List, _++_}
+use Prim.Native.Nat.{ℕ, _+_, _*_, _%_, _≤_, _<_}
+use lib.Dec.{eqb}
+use lib.IntN.{ℤ, pos, negℤ}
+use lib.ListN.{length, drop}
+use Rattle.closure.specs.Cell.{Cell}
+use Rattle.closure.specs.Cell.Cell.{Same, Under, RoleUnder, In, Link}
+use Rattle.closure.specs.Layout.{roleLimit}
+use Rattle.why.specs.declared.Explained.{Explained}
+use Rattle.why.specs.declared.Explained.the-variants as explained
+use Rattle.why.specs.declared.Pointed.{Pointed}
+use Rattle.why.specs.declared.Pointed.the-variants as pointed
+use Rattle.why.specs.Finding.{Points}
+use Rattle.why.specs.Promise.{Explains}
+use Rattle.answer.specs.Promise.{Answers}
+
+-- the room that was lent becomes exit, and the answer is the number of bytes written; past them the room is untouched
+pub data Whys (sheet question room exit : List ℕ) : ℤ → Type 0 where
+  too-long : {text : List ℕ} → Answers sheet question text → length room < length text → exit ≡ room → Whys sheet question room exit (negℤ (pos 8))
+  written : {text : List ℕ} → Answers sheet question text → length text ≤ length room → exit ≡ text ++ drop (length text) room → Whys sheet question room exit (pos (length text))
+
+-- the cell of a kind, by its numbers; any other kind is no cell: a link of a role that no sheet can have
+abbrev pub cellOfKind : ℕ → ℕ → ℕ → ℕ → Cell
+cellOfKind kind a b c =
+    cond (eqb kind 0) (Same a b)
+    (cond (eqb kind 1) (Under a b)
+    (cond (eqb kind 2) (RoleUnder a false b)
+    (cond (eqb kind 3) (RoleUnder a true b)
+    (cond (eqb kind 4) (In a b)
+    (cond (eqb kind 5) (Link c a b) (Link roleLimit a b))))))
+
+-- a refusal as a signed number: 100 times its line, and its number. A sheet has fewer than 100,000 lines, and no number has three digits
+abbrev pub refusalCode : ℕ → ℕ → ℤ
+refusalCode line k = negℤ (pos (100 * (line % 1000000) + k % 100))
+
+-- the number of lines, or a refusal
+abbrev pub explainedCode : Explained → ℤ
+explainedCode (explained.Lines m) = pos (m % 1000000)
+explainedCode (explained.Refused line k) = refusalCode line k
+
+-- a million times the concept that is absent, and the number of lines; or a refusal. There are fewer than 1,024 concepts, and fewer than a million lines
+abbrev pub pointedCode : Pointed → ℤ
+pointedCode (pointed.Lines m d) = pos (1000000 * (d .0 % 1024) + m % 1000000)
+pointedCode (pointed.Refused line k) = refusalCode line k
+
+-- asking why a cell is true gives r
+pub record ExplainCode (sheet s t : List ℕ) (c : Cell) (before after : List ℕ) (r : ℤ) : Type 0 where
+  pub answer : Explained
+  pub explains : Explains sheet s t c before after answer
+  pub code : r ≡ explainedCode answer
+
+-- asking why the item a is a finding of the rule k gives r
+pub record PointCode (sheet s t : List ℕ) (k a : ℕ) (before after : List ℕ) (r : ℤ) : Type 0 where
+  pub answer : Pointed
+  pub points : Points sheet s t k a before after answer
+  pub code : r ≡ pointedCode answer

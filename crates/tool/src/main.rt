@@ -1,0 +1,122 @@
+// The program behind ./saltreeve: `tool why FILE` prints the findings of a sheet with their reasons, `tool why FILE QUESTION` the answer to a question.
+ghost use Prim.Native.Nat.{_≤_};
+ghost use lib.ListN.{length};
+use libc::STDERR_FILENO;
+use libc::STDOUT_FILENO;
+
+// Says on standard error what went wrong.
+fn complain(text: &[u8]) {
+    io::write_all(STDERR_FILENO, text);
+}
+
+// Writes a text to standard output.
+fn say(text: &[u8]) {
+    if !io::write_all(STDOUT_FILENO, text) {
+        complain(b"tool: the text could not be written\n");
+    }
+}
+
+// Writes the first n bytes, unless they are the line of a refusal and that is not wanted.
+fn say_unless(room: &[u8; 65536], n: usize, refusals: bool) {
+    if 65536 < n {
+        complain(b"tool: the reason is too long to be printed\n");
+        return;
+    }
+    if room[0] == b'r' {
+        if !refusals {
+            return;
+        }
+    }
+    say(&room[..n]);
+}
+
+// Prints the answer to a question about a sheet; the line of a refusal only if it is wanted.
+fn print_answer(sheet: &[u8], question: &[u8], refusals: bool) {
+    let mut room = [0u8; 65536];
+    let n = answer::reply::reply(sheet, question, &mut room);
+    say_unless(&room, n, refusals);
+}
+
+// Prints a line of a sheet's text, and below it, if it is that of a finding, its reason.
+fn print_line(sheet: &[u8], line: &[u8]) {
+    say(line);
+    if 0 < line.len() {
+        if line[0] == b'f' {
+            print_answer(sheet, line, false);
+        }
+    }
+}
+
+// Prints the findings of a sheet, each with its reason below it where it has one, and their total.
+fn print_all(sheet: &[u8]) {
+    let mut room = [0u8; 18700];
+    let n = report::page::page(sheet, &mut room);
+    let mut at = 0;
+    while at < n {
+        let end = text::part::end_of(&room, at, 10);
+        print_line(sheet, text::part::part(&room, at, end + 1 - at));
+        at = end + 1;
+    }
+}
+
+// Answers the question that the program was started with, or all questions if there is none.
+fn answer_all(sheet: &[u8]) {
+    if os::arg_count() < 4 {
+        print_all(sheet);
+        return;
+    }
+    let mut question = [0u8; 1024];
+    let n = os::arg(3, &mut question);
+    if os::errno() != 0 {
+        print_answer(sheet, &question, true);
+        return;
+    }
+    print_answer(sheet, &question[..n], true);
+}
+
+// Whether the input has really ended, and not only failed.
+fn ended(fd: i32) -> bool {
+    let mut one = [0u8; 1];
+    libc::read(fd, &mut one) == 0
+}
+
+// Reads one byte more than a sheet may have, so that a longer one is known, and answers.
+fn read_sheet(fd: i32) {
+    let mut sheet = [0u8; 32769];
+    let n = io::read_full(fd, &mut sheet);
+    if n < 32769 {
+        if !ended(fd) {
+            complain(b"tool: the sheet could not be read to its end\n");
+            return;
+        }
+    }
+    answer_all(&sheet[..n]);
+}
+
+// Whether the program was started with the verb `why`.
+fn asked_why() -> bool {
+    let mut verb = [0u8; 8];
+    let n = os::arg(1, &mut verb);
+    text::part::same(&verb[..n], b"why")
+}
+
+// Opens the file that the program was started with.
+fn main() {
+    let mut path = io::buffer();
+    let n = os::arg(2, &mut path);
+    if os::errno() != 0 {
+        complain(b"tool: give a verb and a file, as in: tool why FILE\n");
+        return;
+    }
+    if !asked_why() {
+        complain(b"tool: the verb is not known: there is why\n");
+        return;
+    }
+    let fd = os::open_read(&path[..n]);
+    if fd < 0 {
+        os::fail(&path[..n]);
+        return;
+    }
+    read_sheet(fd);
+    libc::close(fd);
+}
