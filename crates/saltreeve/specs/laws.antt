@@ -1,3 +1,4 @@
 -- What is proved of the answers as numbers, and of the sheet check.
 pub mod Code
 pub mod Check
+pub mod Why

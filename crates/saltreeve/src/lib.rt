@@ -7,7 +7,7 @@ ghost use Rattle.saltreeve.specs.Check.{Checks};
 ghost use Rattle.saltreeve.specs.Code.{AddCode, FreshCode, Small, codeOf, counts};
 
 // What other languages call: the entry points under their C names, and nothing else.
-pub mod why;
+pub mod reasons;
 
 use closure::Answer;
 use closure::Concept;

@@ -1,0 +1,30 @@
+-- `saltreeve::reasons::explained` meets its contract. Assumes nothing.
+use native.Mathlib.Omega.{arith}
+use mathlib.Core.Path.{_∙_}
+use mir.Syntax.{w64}
+use mir.ValLaws.{toZ-ofZ, toZ-pos}
+use borrow.Author.Needs.{needs}
+use Rattle.saltreeve.proofs.reasons.explained.Statement.{statement}
+use Rattle.saltreeve.proofs.reasons.explained.Tie as tie
+
+enum-known-r : tie.Need-enum-known-r
+enum-known-r c = search needs
+
+cast-result : tie.Need-cast-result
+cast-result c = search needs
+
+enum-known-r-2 : tie.Need-enum-known-r-2
+enum-known-r-2 c = search needs
+
+refusal-requires : tie.Need-refusal-requires
+refusal-requires c κs = search needs
+
+returns : tie.Need-returns
+returns c = rw (c .before .r .given .1) (toZ-pos w64 _ (omega arith))
+
+returns-2 : tie.Need-returns-2
+returns-2 c = rw (c .before .before .r2 .given .1) (toZ-ofZ w64 (c .refusal .result) (record { sfits = omega (arith, (c .refusal .ok)) }) ∙ (c .refusal .ensures))
+
+pub explained-spec : {M : Type 1} → statement M
+explained-spec =
+    tie.close (tie.spec enum-known-r cast-result enum-known-r-2 refusal-requires returns returns-2)
