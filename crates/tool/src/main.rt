@@ -1,6 +1,4 @@
 // The program behind ./saltreeve: `tool why FILE` prints the findings of a sheet with their reasons, `tool why FILE QUESTION` the answer to a question.
-ghost use Prim.Native.Nat.{_≤_};
-ghost use lib.ListN.{length};
 use libc::STDERR_FILENO;
 use libc::STDOUT_FILENO;
 
@@ -16,18 +14,27 @@ fn say(text: &[u8]) {
     }
 }
 
-// Writes the first n bytes, unless they are the line of a refusal and that is not wanted.
-fn say_unless(room: &[u8; 65536], n: usize, refusals: bool) {
-    if 65536 < n {
+// Whether a text begins with a byte.
+fn begins(text: &[u8], b: u8) -> bool {
+    if 0 < text.len() {
+        return text[0] == b;
+    }
+    false
+}
+
+// Writes the first n bytes of the room, unless they are the line of a refusal and that is not wanted.
+fn say_unless(room: &[u8], n: usize, refusals: bool) {
+    if room.len() < n {
         complain(b"tool: the reason is too long to be printed\n");
         return;
     }
-    if room[0] == b'r' {
+    let text = text::part::part(room, 0, n);
+    if begins(text, b'r') {
         if !refusals {
             return;
         }
     }
-    say(&room[..n]);
+    say(text);
 }
 
 // Prints the answer to a question about a sheet; the line of a refusal only if it is wanted.
@@ -40,10 +47,18 @@ fn print_answer(sheet: &[u8], question: &[u8], refusals: bool) {
 // Prints a line of a sheet's text, and below it, if it is that of a finding, its reason.
 fn print_line(sheet: &[u8], line: &[u8]) {
     say(line);
-    if 0 < line.len() {
-        if line[0] == b'f' {
-            print_answer(sheet, line, false);
-        }
+    if begins(line, b'f') {
+        print_answer(sheet, line, false);
+    }
+}
+
+// Prints the lines of a sheet's text, and below those of findings their reasons.
+fn print_lines(sheet: &[u8], lines: &[u8]) {
+    let mut at = 0;
+    while at < lines.len() {
+        let end = text::part::end_of(lines, at, 10);
+        print_line(sheet, text::part::part(lines, at, end + 1 - at));
+        at = end + 1;
     }
 }
 
@@ -51,12 +66,7 @@ fn print_line(sheet: &[u8], line: &[u8]) {
 fn print_all(sheet: &[u8]) {
     let mut room = [0u8; 18700];
     let n = report::page::page(sheet, &mut room);
-    let mut at = 0;
-    while at < n {
-        let end = text::part::end_of(&room, at, 10);
-        print_line(sheet, text::part::part(&room, at, end + 1 - at));
-        at = end + 1;
-    }
+    print_lines(sheet, text::part::part(&room, 0, n));
 }
 
 // Answers the question that the program was started with, or all questions if there is none.
