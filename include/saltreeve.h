@@ -1,9 +1,9 @@
 /*
- * Saltreeve: the check of a whole sheet, and the store of what follows from a
- * sheet's statements.
+ * Saltreeve: the check of a whole sheet, the reasons for what is found, and the
+ * store of what follows from a sheet's statements.
  *
- * saltreeve_check, the last function below, takes a sheet's bytes and needs
- * nothing else; docs/HOST.md has an example. The others work on a store: the
+ * saltreeve_check and the three functions after it, which stand last below, take
+ * a sheet's bytes; docs/HOST.md has examples. The others work on a store: the
  * caller lends 4,528 words of 64 bits and says with each call how many
  * items, concepts and roles are declared. Items, concepts and roles are
  * numbered apart, each from 0.
@@ -47,6 +47,17 @@
 
 /* Room in bytes that suffices for the text of any sheet. */
 #define SALTREEVE_TEXT 12814
+
+/* Room in bytes that suffices for the text of saltreeve_why, whatever is asked. */
+#define SALTREEVE_WHY 11000
+
+/* The kinds of cells, for saltreeve_explain. */
+#define SALTREEVE_KIND_SAME 0               /* item a same as item b */
+#define SALTREEVE_KIND_UNDER 1              /* concept a under concept b */
+#define SALTREEVE_KIND_ROLE_UNDER 2         /* role a under role b */
+#define SALTREEVE_KIND_ROLE_UNDER_INVERSE 3 /* role a under the inverse of role b */
+#define SALTREEVE_KIND_IN 4                 /* item a in concept b */
+#define SALTREEVE_KIND_LINK 5               /* role c links item a to item b */
 
 #ifdef __cplusplus
 extern "C" {
@@ -123,6 +134,78 @@ int64_t saltreeve_add_link(uint64_t *words, size_t length,
  */
 int64_t saltreeve_check(const uint8_t *sheet, size_t sheet_length,
                         uint8_t *room, size_t room_length);
+
+/*
+ * Says why: writes to `room` the text for a question about a sheet. The question
+ * is one line, with or without a line feed at its end: a statement line, judged
+ * as it would be in the sheet after its statements, or a line that the text of
+ * saltreeve_check has for a finding. The text is a line for each statement line
+ * of a reason, in the order of the sheet, for a finding a line that names the
+ * cell that is absent, and the total of the statement lines; or one line:
+ * `refused` with what the sheet is refused for, or, for an accepted sheet, with
+ * line 0 and
+ *
+ *   24  the question is no statement line that the sheet would take, or its cell
+ *       is not true
+ *   25  the question is a finding's line, and is no finding of a rule `sub` with
+ *       concept names on both sides
+ *
+ * The cell follows from the lines of a reason alone, and from no part of them
+ * with a line taken out. Where there are several reasons, any one of them is
+ * given. Returns the number of bytes written; the room past them is untouched.
+ * Returns -8 exactly if the text is longer than the room, which is then
+ * untouched as a whole. Sheet and question may have any bytes and any length.
+ * The pointers must point to as many bytes as their lengths say; NULL is not
+ * allowed, also where a length is 0. The room must not overlap the other two.
+ */
+int64_t saltreeve_why(const uint8_t *sheet, size_t sheet_length,
+                      const uint8_t *question, size_t question_length,
+                      uint8_t *room, size_t room_length);
+
+/*
+ * The same by number: reads the sheet into the lent store, and lists the line
+ * numbers of a reason for the cell of the kind `kind` (SALTREEVE_KIND_..) with
+ * the numbers a, b and, for a link alone, c; in the other kinds c is not read.
+ * Items, concepts and roles have the numbers of their places among the
+ * declarations of their kind, from 0. Returns the number of lines of the reason,
+ * 0 for a cell that is true without any statement. The first of them, rising,
+ * are in the list, as far as it reaches; the rest of the list is untouched.
+ * Otherwise returns a refusal, and the list is untouched:
+ *
+ *   -1             `length` is not 4,528
+ *   -9             the sheet has over 32,768 bytes
+ *   -(100L + N)    line L of the sheet is refused by number N, which is 10 to
+ *                  21: -316 is line 3, number 16
+ *   -24            the cell is not true. So is one of another kind, or with a
+ *                  number that is not below the sheet's count
+ *
+ * -1 and -9 change no word. Otherwise the store is left as reading the sheet
+ * leaves it, for -24 as well: what follows from the statements of an accepted
+ * sheet; of a refused one, what the lines before the refused one gave, or zeros
+ * if none of them was a statement or a rule. The sheet, the words and the list
+ * must not overlap; NULL is not allowed, also where a length is 0.
+ */
+int64_t saltreeve_explain(const uint8_t *sheet, size_t sheet_length,
+                          uint64_t *words, size_t length,
+                          uint64_t kind, uint64_t a, uint64_t b, uint64_t c,
+                          uint32_t *list, size_t list_length);
+
+/*
+ * The same for a finding: `rule` is the number of the rule among the sheet's
+ * rules, from 0, and `item` the number of an item that breaks it. Lists the line
+ * numbers of a reason for the item's being in the concept on the rule's left
+ * side. Returns the number of these lines plus 1,000,000 times the number of the
+ * concept on the right side, in which the item is not. Otherwise returns a
+ * refusal as above, and the list is untouched; in the place of -24 there is
+ *
+ *   -25            the sheet has no rule with that number, the rule is no `sub`
+ *                  with concept names on both sides, or the item does not break
+ *                  it; a number that is not below the count of items breaks none
+ */
+int64_t saltreeve_explain_finding(const uint8_t *sheet, size_t sheet_length,
+                                  uint64_t *words, size_t length,
+                                  uint64_t rule, uint64_t item,
+                                  uint32_t *list, size_t list_length);
 
 #ifdef __cplusplus
 }

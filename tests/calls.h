@@ -18,7 +18,7 @@ enum {
     PLACE_BYTES = 256
 };
 
-/* A list lent: its entries, of 1, 2 or 8 bytes each, guard bytes around them, and what they should be after a call. */
+/* A list lent: its entries, of 1, 2, 4 or 8 bytes each, guard bytes around them, and what they should be after a call. */
 struct lent {
     unsigned char *block, *due;
     void *entries;

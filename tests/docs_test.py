@@ -1,16 +1,23 @@
 """Runs every example of the documents and every sheet of examples/ and compares what is printed, byte by byte.
 
-    python3 tests/docs_test.py PROGRAM LIBRARY    PROGRAM reads a sheet on standard input, as `check` does;
-                                                  the C examples are compiled and linked with LIBRARY
-    python3 tests/docs_test.py --oracle           the sheets alone, judged by tests/oracle_sheets.py
+    python3 tests/docs_test.py PROGRAM LIBRARY TOOL    PROGRAM reads a sheet on standard input, as `check` does;
+                                                       the C examples are compiled and linked with LIBRARY;
+                                                       TOOL is the program behind ./saltreeve
+    python3 tests/docs_test.py --oracle                the sheets and the commands alone, judged by the oracles
 
-An example of a document is a fenced block marked `sheet` (a whole sheet, with real tabs) or `c` (a whole program), and
-the block after it, marked `output`: exactly what is printed. A `c` block with no such block after it is no example, but a
-`sheet` block must have one. Blocks with any other mark are passed over. A sheet of examples/ is NAME.sheet, and what is
-printed for it NAME.out.
+An example of a document is one of these:
+    a fenced block marked `sheet` (a whole sheet, with real tabs) or `c` (a whole program), and the block after it, marked
+    `output`: exactly what is printed;
+    a command in a block marked `console`: a line that begins with `$ `, and the lines below it, which are what is printed.
+    Known are `./check FILE`, `./check < FILE` and `./saltreeve why FILE [QUESTION ..]`. A FILE with a slash is one of the
+    repository; a bare name, as in `./check blades.sheet`, stands for the sheet that is shown last above the command.
+A `c` block without an `output` block after it is no example, but a `sheet` block must have one, or a `console` block.
+Blocks with any other mark are passed over. A sheet of examples/ is NAME.sheet, and what is printed for it NAME.out.
+A reason that is shown should be the only one that there is: which one is given is otherwise free.
 """
 
 import argparse
+import re
 import subprocess
 import sys
 from collections import namedtuple
@@ -20,22 +27,49 @@ sys.dont_write_bytecode = True  # keeps the folder of the tests free of build pr
 import documents
 import harness
 
-DOCUMENTS = ("README.md", "docs/*.md", "examples/*.md")
+DOCUMENTS = ("README.md", "docs/*.md", "docs/landings/*.md", "examples/*.md")
 
-# An example: where it stands, its kind ("sheet" or "c"), the bytes given, and the bytes that are to be printed.
-Example = namedtuple("Example", "place kind given printed")
+# An example: where it stands, its kind ("sheet", "c" or "why"), the bytes given, for "why" the question (None: there is
+# none), and the bytes that are to be printed.
+Example = namedtuple("Example", "place kind given question printed")
+
+
+# The bytes of the sheet that a command names.
+def named_sheet(place, name, shown):
+    if "/" in name:
+        return (harness.ROOT / name).read_bytes()
+    if shown is None:
+        raise SystemExit(f"docs: {place}: no sheet stands above this command, for which {name} could stand")
+    return shown
+
+
+# The example that a command is; `shown` are the bytes of the sheet that is shown last above it.
+def command_example(place, command, printed, shown):
+    known = re.fullmatch(r"\./check (?:< )?(\S+)|\./saltreeve why (\S+)((?: \S+)*)", command)
+    if known is None:
+        raise SystemExit(f"docs: {place}: this command is not known here: {command}")
+    checked, asked, question = known.groups()
+    sheet = named_sheet(place, checked or asked, shown)
+    if checked is not None:
+        return Example(place, "sheet", sheet, None, printed)
+    return Example(place, "why", sheet, "\t".join(question.split()) or None, printed)
 
 
 # The examples of one document.
 def document_examples(path):
-    found, blocks = [], documents.blocks(path.read_text())
+    found, shown, blocks = [], None, documents.blocks(path.read_text())
     for block, after in zip(blocks, [*blocks[1:], None]):
         place = f"{path.relative_to(harness.ROOT)}, line {block.line}"
-        has_output = after is not None and after.kind == "output"
-        if block.kind in ("sheet", "c") and has_output:
-            found.append(Example(place, block.kind, block.text.encode(), after.text.encode()))
-        elif block.kind == "sheet":
-            raise SystemExit(f"docs: {place}: no block marked `output` follows this sheet")
+        follows = after.kind if after is not None else None
+        if block.kind == "sheet":
+            shown = block.text.encode()
+        if block.kind in ("sheet", "c") and follows == "output":
+            found.append(Example(place, block.kind, block.text.encode(), None, after.text.encode()))
+        elif block.kind == "sheet" and follows != "console":
+            raise SystemExit(f"docs: {place}: no block marked `output` or `console` follows this sheet")
+        elif block.kind == "console":
+            found += [command_example(place, command, text.encode(), shown)
+                      for command, text in documents.commands(block.text)]
     return found
 
 
@@ -44,7 +78,7 @@ def sheet_examples(folder):
     sheets, outs = (sorted(folder.glob(f"*.{suffix}")) for suffix in ("sheet", "out"))
     if [path.stem for path in sheets] != [path.stem for path in outs]:
         raise SystemExit("docs: examples/ has a NAME.sheet without its NAME.out, or the other way round")
-    return [Example(f"examples/{sheet.name}", "sheet", sheet.read_bytes(), out.read_bytes())
+    return [Example(f"examples/{sheet.name}", "sheet", sheet.read_bytes(), None, out.read_bytes())
             for sheet, out in zip(sheets, outs)]
 
 
@@ -55,9 +89,23 @@ def all_examples():
     return found + sheet_examples(harness.ROOT / "examples")
 
 
+# What an example's place is called in the name of a file.
+def file_name(example):
+    return "example_" + "".join(c if c.isalnum() else "_" for c in example.place)
+
+
 # What the program prints for a sheet.
 def program_printed(program, sheet):
     return subprocess.run([program], input=sheet, check=True, stdout=subprocess.PIPE).stdout
+
+
+# What the program behind ./saltreeve prints for a question about a sheet, or for none.
+def tool_printed(tool, example):
+    harness.BUILD.mkdir(parents=True, exist_ok=True)
+    path = harness.BUILD / f"{file_name(example)}.sheet"
+    path.write_bytes(example.given)
+    words = [tool, "why", path] + ([] if example.question is None else [example.question])
+    return subprocess.run(words, check=True, stdout=subprocess.PIPE).stdout
 
 
 # What the oracle says is to be printed for a sheet.
@@ -66,11 +114,22 @@ def oracle_printed(sheet):
     return oracle_sheets.judge(sheet).text.encode()
 
 
+# The text that the document has for a question, if the oracle of reasons allows it, as any one reason will do; None if
+# there is no such oracle. `allows` takes the bytes of the sheet, the question (None: there is none) and the bytes of a text.
+def oracle_reason(example):
+    try:
+        import oracle_why
+    except ModuleNotFoundError:
+        return None
+    return example.printed if oracle_why.allows(example.given, example.question, example.printed) else b"another text"
+
+
 # What is printed for an example; None if it is not run.
 def printed(chosen, example):
     if example.kind == "c":
-        name = "example_" + "".join(c if c.isalnum() else "_" for c in example.place)
-        return None if chosen.oracle else documents.printed_by_c(name, example.given.decode(), chosen.library)
+        return None if chosen.oracle else documents.printed_by_c(file_name(example), example.given.decode(), chosen.library)
+    if example.kind == "why":
+        return oracle_reason(example) if chosen.oracle else tool_printed(chosen.tool, example)
     return oracle_printed(example.given) if chosen.oracle else program_printed(chosen.program, example.given)
 
 
@@ -79,16 +138,18 @@ def arguments():
     parser = argparse.ArgumentParser(description="Runs the examples of the documents.")
     parser.add_argument("program", nargs="?", help="the program, which reads a sheet on standard input")
     parser.add_argument("library", nargs="?", help="the library that the C examples are linked with")
-    parser.add_argument("--oracle", action="store_true", help="judge the sheets by the oracle, and run no C example")
+    parser.add_argument("tool", nargs="?", help="the program behind ./saltreeve")
+    parser.add_argument("--oracle", action="store_true", help="judge by the oracles, and run no C example")
     chosen = parser.parse_args()
-    if chosen.oracle == (chosen.library is not None):
-        parser.error("give the program and the library, or --oracle alone")
+    given = [each for each in (chosen.program, chosen.library, chosen.tool) if each is not None]
+    if len(given) != (0 if chosen.oracle else 3):
+        parser.error("give the program, the library and the tool, or --oracle alone")
     return chosen
 
 
-# Runs all examples; 0 if each prints what its document says.
+# Runs all examples; 0 if each prints what its document says and, but for the oracle, examples of each kind are run.
 def main():
-    chosen, counts, wrong = arguments(), {"sheet": 0, "c": 0}, 0
+    chosen, counts, wrong = arguments(), {"sheet": 0, "c": 0, "why": 0}, 0
     for example in all_examples():
         got = printed(chosen, example)
         if got is None:
@@ -97,8 +158,10 @@ def main():
         if got != example.printed:
             wrong += 1
             print(f"docs: {example.place}: printed {got!r}, but {example.printed!r} is written there")
-    print(f"docs: {counts['sheet']} sheets and {counts['c']} C programs run, {wrong} print something else")
-    return 1 if wrong or counts["sheet"] == 0 or (counts["c"] == 0 and not chosen.oracle) else 0
+    print(f"docs: {counts['sheet']} sheets, {counts['why']} questions and {counts['c']} C programs run, "
+          f"{wrong} print something else")
+    due = ("sheet",) if chosen.oracle else tuple(counts)
+    return 1 if wrong or any(counts[kind] == 0 for kind in due) else 0
 
 
 if __name__ == "__main__":

@@ -16,6 +16,12 @@ def blocks(text):
     return [Block(each.group(1), each.group(2), text.count("\n", 0, each.start()) + 1) for each in found]
 
 
+# The commands of a block that shows them after `$ `: each with the text below it, up to the next one.
+def commands(text):
+    _, *shown = re.split(r"^\$ ", text, flags=re.M)
+    return [(command, printed) for command, _, printed in (each.partition("\n") for each in shown)]
+
+
 # Compiles a C program with the library; gives the bytes that it prints.
 def printed_by_c(name, code, library):
     harness.BUILD.mkdir(parents=True, exist_ok=True)

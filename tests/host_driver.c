@@ -22,11 +22,7 @@
  */
 #define _XOPEN_SOURCE 600
 
-#include "calls.h"
-#include "measure.h"
-#include "saltreeve.h"
-
-#include <stdarg.h>
+#include "measured_sheet.h"
 
 enum { TEXT_TOO_LONG = -8 };
 
@@ -99,65 +95,12 @@ static void run_commands(void)
 
 /* --- Measuring: sheets at the limits, and the rules that go deepest. --- */
 
-enum { SHEET_BYTES = 32768 };
-
 /* How long each sheet is checked over and over, in seconds of processor time. */
 static const double TIMED_SECONDS = 0.5;
 
-/* The names of roles, and of the items of a sheet that has many lines. */
-static const char LETTERS[] = "ABCDEFGHIJKLMNOPQRSTUVWXYZabcdefghijklmnopqrstuvwxyz0123456789._/-";
-
-/* The sheet that is measured, where its text is written, and what came out. */
-static char measured_sheet[SHEET_BYTES + 1];
-static size_t measured_length;
+/* Where the text of the sheet that is measured is written, and what came out. */
 static uint8_t measured_room[SALTREEVE_TEXT];
 static int64_t measured_result;
-
-/* Adds to the sheet, in the manner of printf. */
-static void add(const char *format, ...)
-{
-    size_t left = sizeof measured_sheet - measured_length;
-    va_list given;
-    va_start(given, format);
-    int added = vsnprintf(measured_sheet + measured_length, left, format, given);
-    va_end(given);
-    if (added < 0 || (size_t)added >= left)
-        stop("a sheet is too long");
-    measured_length += (size_t)added;
-}
-
-/* Adds the bytes of a file. */
-static void add_file(const char *path)
-{
-    FILE *file = fopen(path, "rb");
-    if (file == NULL)
-        stop("a sheet of examples/ cannot be opened");
-    measured_length += fread(measured_sheet + measured_length, 1, sizeof measured_sheet - measured_length, file);
-    fclose(file);
-}
-
-/* Adds so many lines, with the numbers from 0 on and the one that follows each, around to 0. */
-static void add_numbered(int count, const char *format)
-{
-    for (int i = 0; i < count; i++)
-        add(format, i, (i + 1) % count);
-}
-
-/* The same with letters. */
-static void add_lettered(int count, const char *format)
-{
-    for (int i = 0; i < count; i++)
-        add(format, LETTERS[i], LETTERS[(i + 1) % count]);
-}
-
-/* Adds the header and all names that a sheet can have. */
-static void add_names(void)
-{
-    add("sheet\t1\n");
-    add_numbered(SALTREEVE_CONCEPTS, "concept\tC%d\n");
-    add_lettered(SALTREEVE_ROLES, "role\t%c\n");
-    add_numbered(SALTREEVE_ITEMS, "item\ti%d\n");
-}
 
 /* Puts every role under every other one and its inverse. */
 static void join_roles(void)
@@ -308,9 +251,6 @@ static const struct measured DEEPEST[] = {
     {"120 nested nots, refused", one_article,
      "rule\tin" TIMES_30("\tnot") TIMES_30("\tnot") TIMES_30("\tnot") TIMES_30("\tnot") "\ttop\ti0\n", 1, 15},
 };
-
-/* How many there are. */
-#define COUNT(table) (sizeof(table) / sizeof(table)[0])
 
 /* Writes the sheet that is to be measured. */
 static void build(const struct measured *measured)
