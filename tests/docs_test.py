@@ -114,13 +114,9 @@ def oracle_printed(sheet):
     return oracle_sheets.judge(sheet).text.encode()
 
 
-# The text that the document has for a question, if the oracle of reasons allows it, as any one reason will do; None if
-# there is no such oracle. `allows` takes the bytes of the sheet, the question (None: there is none) and the bytes of a text.
+# The text that the document has for a question, if the oracle of reasons allows it, as any one reason will do.
 def oracle_reason(example):
-    try:
-        import oracle_why
-    except ModuleNotFoundError:
-        return None
+    import oracle_why
     return example.printed if oracle_why.allows(example.given, example.question, example.printed) else b"another text"
 
 

@@ -10,7 +10,8 @@ from contextlib import contextmanager
 from pathlib import Path
 
 ROOT = Path(__file__).resolve().parent.parent
-BUILD = ROOT / "target" / "tests"
+# Where the tests build; a folder of its own for tests that run while rt makes the folder target anew.
+BUILD = Path(os.environ.get("SALTREEVE_BUILD") or ROOT / "target" / "tests")
 COMPILER = [os.environ.get("CC", "gcc"), "-std=c99", "-O1", "-Wall", "-Wextra", "-Werror", f"-I{ROOT / 'include'}"]
 
 DEFAULT_SEED = 17

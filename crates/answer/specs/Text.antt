@@ -1,5 +1,4 @@
 -- The text that is printed for a question: the lines of a reason, what is absent, the total.
-use mathlib.Core.Bool.{Bool, cond}
 use mathlib.Core.List.{List, [], _∷_, _++_}
 use Prim.Native.Nat.{ℕ, _-_}
 use lib.ListN.{length, getD}

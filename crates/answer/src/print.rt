@@ -137,7 +137,13 @@ fn put_absent(sheet: &[u8], t: Table, a: Absent, room: &mut [u8], at: usize) -> 
 }
 
 // Writes the text of the statements marked, from the room's start on and as far as it reaches: their lines, what is absent, the total; gives its length.
-pub fn put_reason(sheet: &[u8], t: Table, marks: &[u64; Lines::WORDS], a: Absent, room: &mut [u8]) -> usize
+pub fn put_reason(
+    sheet: &[u8],
+    t: Table,
+    marks: &[u64; Lines::WORDS],
+    a: Absent,
+    room: &mut [u8],
+) -> usize
     requires { ⌜ Accepted (now sheet) ⌝ }
     ensures { λ r. ⌜ ReasonPut (now (sheet .entry)) (namesOf (now (sheet .entry)) t) a (now (marks .entry)) (now (room .entry)) (now (room .exit)) r ⌝ }
 {

@@ -1,6 +1,6 @@
 -- Laws of taking a question apart. Assumes nothing.
 use mathlib.Core.Path.{_≡_, refl, sym, ap, _∙_, subst}
-use mathlib.Core.Bool.{Bool, true, false, cond, true≢false}
+use mathlib.Core.Bool.{Bool, true, false, true≢false}
 use mathlib.Core.List.{List, [], _∷_, _++_, map}
 use Prim.Native.Nat.{ℕ, suc, _+_, _-_, _≤_, _<_, zero-le}
 use native.Mathlib.Decide.{decLt}
@@ -8,7 +8,6 @@ use native.Mathlib.Omega.{arith}
 use borrow.Author.Tests.{eq-eqb, ne-eqb}
 use lib.ListN.{length, getD, length-append}
 use Rattle.closure.specs.declared.Counts.{Counts}
-use Rattle.closure.specs.Cell.{Cell, cellOf}
 use Rattle.text.specs.Bytes.{bytes, partOf, same}
 use Rattle.text.specs.Split.{fieldFrom, fields, partsFrom, pastField}
 use Rattle.text.specs.Text.{decimal}
@@ -22,7 +21,7 @@ use Rattle.sheet.specs.declared.Table.{Table}
 use Rattle.sheet.specs.Fault.{lineFault}
 use Rattle.sheet.specs.Names.{Names}
 use Rattle.sheet.specs.Read.{at, itemOf}
-use Rattle.sheet.specs.Said.{Said, SheetRule, outcome, statementOf}
+use Rattle.sheet.specs.Said.{Said, SheetRule, outcome}
 use Rattle.sheet.specs.Said.Outcome.{accepted}
 use Rattle.sheet.specs.Table.{namesOf}
 use Rattle.sheet.specs.Words.{Field, bodyOf, formOf}
@@ -35,7 +34,7 @@ use Rattle.answer.specs.declared.CellAsked.{CellAsked}
 use Rattle.answer.specs.declared.FindingAsked.{FindingAsked}
 use Rattle.answer.specs.Asked.{Asking, BreakingIf, BrokenIn, FindingIf, FindingIn, FormAsked, SidesIf}
 use Rattle.answer.specs.Promise.{ruleLine}
-use Rattle.answer.specs.Question.{AsksCell, aboutFinding, amongStatements, bare}
+use Rattle.answer.specs.Question.{aboutFinding, amongStatements, bare}
 
 -- a line with nothing wrong with it asks for the cell that it states, if it is a statement
 pub asking-form : (n : Names) (q : List ℕ) (r : CellAsked) → lineFault n amongStatements q ≡ 0 → FormAsked n (formOf (fields q)) (bodyOf (fields q)) r → Asking (r .asked) n q r
@@ -128,17 +127,17 @@ module _ (n : Counts) (x : Said) (s q : List ℕ) where
     unfolding aboutFinding
     first-is = same-true _ _ (ap (λ (h : Field). same h (bytes "finding")) (first-field q) ∙ about)
 
-    fields-are : fields q ≡ bytes "finding" ∷ (lineField q) ∷ (nameField q) ∷ []
-    fields-are = three-fields q l ∙ ap (λ (h : Field). h ∷ (lineField q) ∷ (nameField q) ∷ []) first-is
+    fields-are : fields q ≡ bytes "finding" ∷ lineField q ∷ nameField q ∷ []
+    fields-are = three-fields q l ∙ ap (λ (h : Field). h ∷ lineField q ∷ nameField q ∷ []) first-is
 
-    second-is : {h i : Field} → fields q ≡ bytes "finding" ∷ h ∷ i ∷ [] → ((lineField q) ≡ h) × ((nameField q) ≡ i)
+    second-is : {h i : Field} → fields q ≡ bytes "finding" ∷ h ∷ i ∷ [] → (lineField q ≡ h) × (nameField q ≡ i)
     second-is e = let z = sym fields-are ∙ e in (ap (λ (fs : List Field). at 1 fs) z, ap (λ (fs : List Field). at 2 fs) z)
 
     found-so : {a c d : ℕ} → a ≡ itemOf names (nameField q) .0 → BrokenIn n x s (lineField q) a c d → FindingIn n x s q a c d
     found-so e z =
         record {
           rule = z .rule;
-          asks = record { name = (nameField q); is = fields-are ∙ ap (λ (h : Field). bytes "finding" ∷ h ∷ (nameField q) ∷ []) (same-true _ _ (z .line)); item = e ∙ ap (λ (m : Names). itemOf m (nameField q) .0) (sym same-names) };
+          asks = record { name = nameField q; is = fields-are ∙ ap (λ (h : Field). bytes "finding" ∷ h ∷ nameField q ∷ []) (same-true _ _ (z .line)); item = e ∙ ap (λ (m : Names). itemOf m (nameField q) .0) (sym same-names) };
           broken = z .broken;
         }
 

@@ -1,10 +1,10 @@
 -- Laws of replies: a text that has place in the room, or none of it. Assumes nothing.
 use mathlib.Core.Path.{_≡_, refl, sym, ap, _∙_, subst}
 use mathlib.Core.Bool.{Bool, true, false, cond}
-use mathlib.Core.List.{List, [], _∷_, _++_, map}
+use mathlib.Core.List.{List, [], _∷_, map}
 use Prim.Native.Nat.{ℕ, suc, _≤_, _<_}
 use native.Mathlib.Omega.{arith}
-use lib.ListN.{length, drop}
+use lib.ListN.{length}
 use borrow.Author.Tests.{ne-eqb}
 use Rattle.row.specs.Row.{rowHasb}
 use Rattle.text.specs.Split.{fields}
@@ -20,9 +20,9 @@ use Rattle.sheet.specs.declared.StatementWord.{StatementWord}
 use Rattle.sheet.specs.declared.Table.{Table}
 use Rattle.sheet.specs.Names.{Names, countsOf}
 use Rattle.sheet.specs.Pass.{Judges}
-use Rattle.sheet.specs.Promise.{Held, refusedText}
+use Rattle.sheet.specs.Promise.{refusedText}
 use Rattle.sheet.specs.Said.{Said, SheetStatement, outcome, statementOf}
-use Rattle.sheet.specs.Said.Outcome.{accepted, refused as refusedAt}
+use Rattle.sheet.specs.Said.Outcome.{accepted}
 use Rattle.sheet.specs.Stands.{Opens}
 use Rattle.sheet.specs.Table.{namesOf}
 use Rattle.sheet.specs.Words.{bodyOf}
@@ -40,11 +40,11 @@ use Rattle.answer.specs.declared.Absent.{Absent}
 use Rattle.answer.specs.declared.CellAsked.{CellAsked}
 use Rattle.answer.specs.declared.FindingAsked.{FindingAsked}
 use Rattle.answer.specs.Asked.{Asking, FindingIf, FindingIn}
-use Rattle.answer.specs.Promise.{Answers, Fitted, Replies, ruleLine}
+use Rattle.answer.specs.Promise.{Fitted, Replies, ruleLine}
 use Rattle.answer.specs.Promise.Answers.{not-true, found, not-broken, broken, refused}
 use Rattle.answer.specs.Question.{AsksCell, AsksFinding, aboutFinding, bare}
 use Rattle.answer.specs.Text.{absentText, reasonText}
-use Rattle.answer.specs.Writing.{Accepted, CellReply, FindingReply, Known, ReasonPut, ReasonFits, ReasonSaid, absentIf}
+use Rattle.answer.specs.Writing.{Accepted, CellReply, FindingReply, Known, ReasonFits, ReasonSaid, absentIf}
 
 -- ---- the room
 

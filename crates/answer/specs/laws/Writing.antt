@@ -1,18 +1,18 @@
 -- Laws of writing the lines of a reason: which lines are those of statements, and what has been written of them. Assumes nothing.
 use mathlib.Core.Path.{_≡_, refl, sym, ap, _∙_, subst}
 use mathlib.Core.Bool.{Bool, true, false, cond, true≢false}
-use mathlib.Core.List.{List, [], _∷_, _++_, append-assoc, append-nil, map}
-use Prim.Native.Nat.{ℕ, suc, _+_, _-_, _*_, _≤_, _<_, zero-le}
+use mathlib.Core.List.{List, [], _∷_, _++_, append-assoc, append-nil}
+use Prim.Native.Nat.{ℕ, _+_, _-_, _*_, _≤_, _<_, zero-le}
 use native.Mathlib.Omega.{arith}
 use lib.ListN.{length, getD, drop, length-append, length-map, length-take}
 use lib.Seq.{drop-drop, getD-drop}
 use Rattle.row.specs.Row.{rowHasb}
-use Rattle.reason.specs.Picked.{markWords, picked, pickedFrom}
+use Rattle.reason.specs.Picked.{picked, pickedFrom}
 use Rattle.reason.specs.laws.Picked.{picked-more}
 use Rattle.text.specs.Bytes.{partOf, place, same}
 use Rattle.text.specs.Split.{endOf, fields, lines, partsFrom, split}
 use Rattle.text.specs.Text.{Wrote}
-use Rattle.text.specs.laws.Split.{end-ge, end-le, parts-all, parts-next, parts-none}
+use Rattle.text.specs.laws.Split.{end-le, parts-all, parts-next, parts-none}
 use Rattle.text.specs.laws.Text.{wrote-none, wrote-then}
 use Rattle.sheet.specs.declared.Form.{Form}
 use Rattle.sheet.specs.declared.Form.the-variants as form
@@ -24,7 +24,7 @@ use Rattle.sheet.specs.laws.Pass.{accepted-start, accepted-step, saidOf}
 use Rattle.why.specs.Listed.{linesOf}
 use Rattle.answer.specs.declared.Printed.{Printed}
 use Rattle.answer.specs.Text.{linesText, numberedText}
-use Rattle.answer.specs.Writing.{Accepted, LinesPut, PutIf, statementForm}
+use Rattle.answer.specs.Writing.{Accepted, PutIf, statementForm}
 
 -- ---- one line
 
@@ -173,7 +173,7 @@ module _ {sheet : List ℕ} {x : Said} {marks room mid : List ℕ} {p : Printed}
       let more = w .done ++ cond s (k ∷ []) [] in
       let p′ : picked marks more ≡ picked marks (w .done) ++ cond b (k ∷ []) [] = picked-line marks (w .done) k n s (w .count) ∙ ap (λ (c : Bool). picked marks (w .done) ++ cond c (k ∷ []) []) (sym on) in
       let t : linesText sheet (picked marks more) ≡ linesText sheet (picked marks (w .done)) ++ cond b (numberedText k l) [] =
-            ap (linesText sheet) p′ ∙ texts-append sheet (picked marks (w .done)) (cond b (k ∷ []) []) ∙ ap (λ (u : List ℕ). linesText sheet (picked marks (w .done)) ++ u) (text-one sheet k l b (standing-line (w .standing) e l g ends is)) in
+      ap (linesText sheet) p′ ∙ texts-append sheet (picked marks (w .done)) (cond b (k ∷ []) []) ∙ ap (λ (u : List ℕ). linesText sheet (picked marks (w .done)) ++ u) (text-one sheet k l b (standing-line (w .standing) e l g ends is)) in
       record {
         done = more;
         standing = standing-next (w .standing) e l g ends is;

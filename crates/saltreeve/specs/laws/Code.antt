@@ -1,11 +1,9 @@
 -- Laws of the answers as signed numbers. Assumes nothing.
 use mathlib.Core.Path.{_≡_, ap, _∙_, sym}
 use mathlib.Core.List.{List}
-use Prim.Native.Nat.{ℕ, _<_, _^_}
+use Prim.Native.Nat.{ℕ}
 use native.Mathlib.Omega.{arith}
 use lib.IntN.{ℤ}
-use mir.Syntax.{w64}
-use mir.Val.{SFits}
 use Rattle.row.specs.Bit.{Words}
 use Rattle.closure.specs.declared.Counts.{Counts}
 use Rattle.closure.specs.declared.Answer.{Answer}

@@ -1,7 +1,6 @@
 -- A sheet has no more statements than there are marks: the line of each has at least five bytes with its line feed. Assumes nothing.
 use mathlib.Core.Path.{_≡_, refl, sym, ap, _∙_}
-use mathlib.Core.Bool.{Bool, true, false, cond}
-use mathlib.Core.List.{List, [], _∷_, _++_}
+use mathlib.Core.List.{List, [], _∷_}
 use Prim.Native.Nat.{ℕ, suc, _+_, _*_, _-_, _≤_, zero-le}
 use native.Mathlib.Omega.{arith}
 use lib.ListN.{length, length-append}
@@ -10,8 +9,8 @@ use Rattle.text.specs.Split.{endOf, fields, partsFrom, split}
 use Rattle.text.specs.laws.Split.{parts-all, parts-next}
 use Rattle.sheet.specs.declared.Form.{Form}
 use Rattle.sheet.specs.declared.Form.the-variants as form
-use Rattle.sheet.specs.Fault.{lineFault, none}
-use Rattle.sheet.specs.Said.{Outcome, Said, SheetStatement, lineSaid, marksOf, nothing, outcome, outcomeFrom, saying, statementOf}
+use Rattle.sheet.specs.Fault.{lineFault}
+use Rattle.sheet.specs.Said.{Outcome, Said, lineSaid, marksOf, nothing, outcome, outcomeFrom, saying, statementOf}
 use Rattle.sheet.specs.Said.Outcome.{accepted}
 use Rattle.sheet.specs.Words.{bodyOf, formOf}
 use Rattle.sheet.specs.laws.Accepted.{line-accepted}

@@ -1,6 +1,5 @@
 -- `answer::ask::about_finding` meets its contract. Assumes nothing.
-use mathlib.Core.Path.{ap, _∙_}
-use Rattle.text.specs.Bytes.{bytes, same}
+use Rattle.text.specs.Bytes.{same}
 use Rattle.answer.specs.Question.{aboutFinding}
 use Rattle.answer.specs.laws.Asked.{first-field}
 use borrow.Author.Needs.{needs}

@@ -1,6 +1,6 @@
 -- `answer::ask::bare` meets its contract. Assumes nothing.
 use native.Mathlib.Omega.{arith}
-use mathlib.Core.Path.{sym, _∙_}
+use mathlib.Core.Path.{_∙_}
 use Rattle.answer.specs.laws.Asked.{bare-cut, bare-nothing, bare-whole}
 use borrow.Author.Needs.{needs}
 use Rattle.answer.proofs.ask.bare.Statement.{statement}

@@ -1,5 +1,4 @@
 -- `answer::ask::cell` meets its contract. Assumes nothing.
-use native.Mathlib.Omega.{arith}
 use mathlib.Core.Path.{sym, _∙_}
 use Rattle.answer.specs.laws.Asked.{asking-form, asking-wrong}
 use borrow.Author.Needs.{needs}

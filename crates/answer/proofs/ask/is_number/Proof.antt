@@ -1,6 +1,6 @@
 -- `answer::ask::is_number` meets its contract. Assumes nothing.
 use native.Mathlib.Omega.{arith}
-use mathlib.Core.Path.{refl, sym, ap, _∙_}
+use mathlib.Core.Path.{ap}
 use lib.ListN.{length}
 use Rattle.text.specs.laws.Text.{wrote-text}
 use borrow.Author.Needs.{needs}

@@ -1,6 +1,4 @@
 -- `answer::print::marked_if` meets its contract. Assumes nothing.
-use native.Mathlib.Omega.{arith}
-use borrow.Author.Needs.{needs}
 use Rattle.answer.proofs.print.marked_if.Statement.{statement}
 use Rattle.answer.proofs.print.marked_if.Tie as tie
 

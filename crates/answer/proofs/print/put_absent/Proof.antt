@@ -35,7 +35,7 @@ same-length c = search needs
 
 returns : tie.Need-returns
 unfolding absentText
-returns c = 
+returns c =
     let x = (c .before .before .before .before .before .before .before .before .before .before .before .before .before .before .before .before .before .before .before .before .before .before .before .before .before .args) in
     let w = wrote-then (wrote-then (wrote-then (c .before .before .before .before .before .before .before .before .before .before .before .before .before .before .before .before .before .before .before .put-all .ensures) (c .before .before .before .before .before .before .before .before .before .before .before .before .before .before .before .put-name .ensures .0)) (wrote-then (c .before .before .before .before .before .before .before .before .before .before .before .put .ensures) (rw (c .before .before .before .before .before .before .before .concept .ensures) at (c .before .before .before .before .before .before .put-all2 .ensures)))) (c .before .before .put2 .ensures) in
     rw (c .before .before .before .before .before .before .before .before .before .before .before .before .before .before .before .before .before .before .before .before .before .before .if1 .taken) (w, omega (arith, (c .before .before .put2 .ensures .next), (c .before .before .before .before .before .before .put-all2 .ensures .next), ap length (c .before .before .before .before .before .before .before .concept .ensures), name-short (x .sheet .now) (x .t .counts .concepts) (x .t .concepts) (x .a .concept), (c .before .before .before .before .before .before .before .before .before .before .before .put .ensures .next), (c .before .before .before .before .before .before .before .before .before .before .before .before .before .before .before .put-name .ensures .1), (c .before .before .before .before .before .before .before .before .before .before .before .before .before .before .before .before .before .before .before .put-all .ensures .next)))

@@ -29,7 +29,7 @@ same-length c = search needs
 
 returns : tie.Need-returns
 unfolding numberedText
-returns c = 
+returns c =
     let w = wrote-then (wrote-then (wrote-then (c .before .before .before .before .before .before .before .before .before .before .before .before .before .before .before .before .before .before .put-all .ensures) (c .before .before .before .before .before .before .before .before .before .before .before .before .before .before .put-number .ensures .0)) (wrote-then (c .before .before .before .before .before .before .before .before .before .before .put .ensures) (c .before .before .before .before .before .before .put-all2 .ensures))) (c .before .before .put2 .ensures) in
     (w, omega (arith, (c .before .before .before .before .before .before .before .before .before .before .before .before .before .before .before .before .before .before .put-all .ensures .next), (c .before .before .before .before .before .before .before .before .before .before .before .before .before .before .put-number .ensures .1), (c .before .before .before .before .before .before .before .before .before .before .put .ensures .next), (c .before .before .before .before .before .before .put-all2 .ensures .next), (c .before .before .put2 .ensures .next)))
 

@@ -59,22 +59,23 @@ loop-less : tie.Need-loop-less Inv-loop μ-loop
 loop-less c = omega (arith, (c .before .before .before .before .before .before .before .before .end-of2 .ensures), end-ge 10 (c .before .before .before .before .before .before .before .before .before .before .before .before .before .before .args .sheet .now) (c .before .before .before .before .before .before .before .before .before .before .loop .at), (c .before .before .before .before .before .before .before .before .before .loop-test .taken))
 
 loop-again : tie.Need-loop-again Inv-loop μ-loop
-loop-again c = 
+loop-again c =
     let long = part-length (c .before .before .before .before .before .before .before .before .before .before .before .before .before .before .args .sheet .now) (c .before .before .before .before .before .before .before .before .before .before .loop .at) (c .before .before .before .before .before .before .before .before .end-of2 .result) (c .before .before .before .before .before .before .before .part .ensures) in
-    let past = end-ge 10 (c .before .before .before .before .before .before .before .before .before .before .before .before .before .before .args .sheet .now) (c .before .before .before .before .before .before .before .before .before .before .loop .at) in
-    ((λ x o. written-next ((c .before .before .before .before .before .before .before .before .before .before .loop .inv .0) x o) _ _ (omega (arith, (c .before .before .before .before .before .before .before .before .before .loop-test .taken))) (c .before .before .before .before .before .before .before .before .end-of2 .ensures) (c .before .before .before .before .before .before .before .part .ensures) _ ((c .before .before .before .before .before .marked-if .ensures) ∙ ap (λ (s : Bool). cond s (rowHasb (c .before .before .before .before .before .before .before .before .before .before .before .before .before .before .args .marks .now) (c .before .before .before .before .before .before .before .before .before .before .loop .n)) false) (c .before .before .before .before .before .before .is-statement .ensures)) (c .before .before .before .put-line-if .ensures) ((c .more-if .ensures) ∙ ap (λ (s : Bool). (c .before .before .before .before .before .before .before .before .before .before .loop .n) + cond s 1 0) (c .before .before .before .before .before .before .is-statement .ensures))),
-    omega (arith, (c .before .before .before .before .before .before .before .before .before .before .loop .inv .1), past, (c .before .before .before .before .before .before .before .before .end-of2 .ensures)),
-    room-grows _ ((c .before .before .before .before .before .marked-if .ensures) ∙ ap (λ (s : Bool). cond s (rowHasb (c .before .before .before .before .before .before .before .before .before .before .before .before .before .before .args .marks .now) (c .before .before .before .before .before .before .before .before .before .before .loop .n)) false) (c .before .before .before .before .before .before .is-statement .ensures)) (c .before .before .before .put-line-if .ensures) long (omega (arith, past, (c .before .before .before .before .before .before .before .before .end-of2 .ensures))) (c .before .before .before .before .before .before .before .before .before .before .loop .inv .2),
-    omega (arith, (c .before .before .before .put-line-if .ensures .total), one-at-most (c .before .before .before .before .before .marked-if .result), (c .before .before .before .before .before .before .before .before .before .before .loop .inv .3), past, (c .before .before .before .before .before .before .before .before .end-of2 .ensures)),
-    omega (arith, (c .more-if .ensures), one-at-most (c .before .before .before .before .before .before .is-statement .result), (c .before .before .before .before .before .before .before .before .before .before .loop .inv .4), past, (c .before .before .before .before .before .before .before .before .end-of2 .ensures)),
-    omega (arith, (c .before .before .before .before .before .before .before .before .end-of2 .ensures), end-le 10 (c .before .before .before .before .before .before .before .before .before .before .before .before .before .before .args .sheet .now) (c .before .before .before .before .before .before .before .before .before .before .loop .at) (omega (arith, (c .before .before .before .before .before .before .before .before .before .loop-test .taken)))),
-    (c .before .before .room .given) ∙ (c .before .before .before .before .before .before .before .before .before .before .loop .inv .6))
+    let past = end-ge 10 (c .before .before .before .before .before .before .before .before .before .before .before .before .before .before .args .sheet .now) (c .before .before .before .before .before .before .before .before .before .before .loop .at) in (
+      (λ x o. written-next ((c .before .before .before .before .before .before .before .before .before .before .loop .inv .0) x o) _ _ (omega (arith, (c .before .before .before .before .before .before .before .before .before .loop-test .taken))) (c .before .before .before .before .before .before .before .before .end-of2 .ensures) (c .before .before .before .before .before .before .before .part .ensures) _ ((c .before .before .before .before .before .marked-if .ensures) ∙ ap (λ (s : Bool). cond s (rowHasb (c .before .before .before .before .before .before .before .before .before .before .before .before .before .before .args .marks .now) (c .before .before .before .before .before .before .before .before .before .before .loop .n)) false) (c .before .before .before .before .before .before .is-statement .ensures)) (c .before .before .before .put-line-if .ensures) ((c .more-if .ensures) ∙ ap (λ (s : Bool). (c .before .before .before .before .before .before .before .before .before .before .loop .n) + cond s 1 0) (c .before .before .before .before .before .before .is-statement .ensures))),
+      omega (arith, (c .before .before .before .before .before .before .before .before .before .before .loop .inv .1), past, (c .before .before .before .before .before .before .before .before .end-of2 .ensures)),
+      room-grows _ ((c .before .before .before .before .before .marked-if .ensures) ∙ ap (λ (s : Bool). cond s (rowHasb (c .before .before .before .before .before .before .before .before .before .before .before .before .before .before .args .marks .now) (c .before .before .before .before .before .before .before .before .before .before .loop .n)) false) (c .before .before .before .before .before .before .is-statement .ensures)) (c .before .before .before .put-line-if .ensures) long (omega (arith, past, (c .before .before .before .before .before .before .before .before .end-of2 .ensures))) (c .before .before .before .before .before .before .before .before .before .before .loop .inv .2),
+      omega (arith, (c .before .before .before .put-line-if .ensures .total), one-at-most (c .before .before .before .before .before .marked-if .result), (c .before .before .before .before .before .before .before .before .before .before .loop .inv .3), past, (c .before .before .before .before .before .before .before .before .end-of2 .ensures)),
+      omega (arith, (c .more-if .ensures), one-at-most (c .before .before .before .before .before .before .is-statement .result), (c .before .before .before .before .before .before .before .before .before .before .loop .inv .4), past, (c .before .before .before .before .before .before .before .before .end-of2 .ensures)),
+      omega (arith, (c .before .before .before .before .before .before .before .before .end-of2 .ensures), end-le 10 (c .before .before .before .before .before .before .before .before .before .before .before .before .before .before .args .sheet .now) (c .before .before .before .before .before .before .before .before .before .before .loop .at) (omega (arith, (c .before .before .before .before .before .before .before .before .before .loop-test .taken)))),
+      (c .before .before .room .given) ∙ (c .before .before .before .before .before .before .before .before .before .before .loop .inv .6),
+    )
 
 same-length : tie.Need-same-length Inv-loop μ-loop
 same-length c = search needs
 
 returns : tie.Need-returns Inv-loop μ-loop
-returns c = 
+returns c =
     record { wrote = λ x o. written-end (omega (arith, (c .loop-test .left))) ((c .before .loop .inv .0) x o) .0; total = λ x o. written-end (omega (arith, (c .loop-test .left))) ((c .before .loop .inv .0) x o) .1; short = omega (arith, (c .before .loop .inv .2), (c .before .loop .inv .5), sheet-short (c .before .before .before .before .before .pre)); few = omega (arith, (c .before .loop .inv .3), (c .before .loop .inv .5), sheet-short (c .before .before .before .before .before .pre)) }
 
 pub put-lines-spec : {M : Type 1} → statement M

@@ -1,5 +1,5 @@
 -- `answer::reply::reply` meets its contract. Assumes nothing.
-use mathlib.Core.Path.{refl, sym, _∙_}
+use mathlib.Core.Path.{sym, _∙_}
 use Rattle.sheet.specs.laws.Stands.{Places}
 use Rattle.answer.specs.laws.Reply.{known-opens, reply-refused}
 use borrow.Author.Needs.{needs}
@@ -31,7 +31,7 @@ slice-aggregate-finding : tie.Need-slice-aggregate-finding
 slice-aggregate-finding c = search needs
 
 finding-requires : tie.Need-finding-requires
-finding-requires c κs = 
+finding-requires c κs =
     let g = (c .before .before .before .before .before .before .before .before .before .before .fill .ok) in
     let p : Places (c .before .before .before .before .before .before .before .before .before .before .fill .result .kept .table) = record { concepts = search needs; roles = search needs; items = search needs } in
     (known-opens (c .before .before .before .before .before .before .before .before .before .before .fill .ensures) (c .before .before .before .before .before .before .before .if1 .left) p, sym (c .before .before .before .about-finding .ensures) ∙ (c .before .before .if2 .taken))
@@ -46,7 +46,7 @@ slice-aggregate-cell : tie.Need-slice-aggregate-cell
 slice-aggregate-cell c = search needs
 
 cell-requires : tie.Need-cell-requires
-cell-requires c κs = 
+cell-requires c κs =
     let g = (c .before .before .before .before .before .before .before .before .before .before .fill .ok) in
     let p : Places (c .before .before .before .before .before .before .before .before .before .before .fill .result .kept .table) = record { concepts = search needs; roles = search needs; items = search needs } in
     known-opens (c .before .before .before .before .before .before .before .before .before .before .fill .ensures) (c .before .before .before .before .before .before .before .if1 .left) p

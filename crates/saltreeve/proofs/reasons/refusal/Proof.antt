@@ -1,6 +1,6 @@
 -- `saltreeve::reasons::refusal` meets its contract. Assumes nothing.
 use native.Mathlib.Omega.{arith}
-use mathlib.Core.Path.{subst, sym, _∙_}
+use mathlib.Core.Path.{_∙_}
 use Prim.Native.Nat.{_+_, _*_, _%_}
 use Rattle.saltreeve.specs.laws.Why.{minus-fits, minus-is}
 use mir.Syntax.{w64}

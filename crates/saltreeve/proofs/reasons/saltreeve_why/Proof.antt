@@ -1,7 +1,7 @@
 -- `saltreeve::reasons::saltreeve_why` meets its contract. Assumes nothing.
 use native.Mathlib.Omega.{arith}
 use mir.Syntax.{w64}
-use mir.ValLaws.{toZ-ofZ, toZ-pos}
+use mir.ValLaws.{toZ-pos}
 use Rattle.saltreeve.specs.laws.Why.{why-long, why-written}
 use borrow.Author.Needs.{needs}
 use Rattle.saltreeve.proofs.reasons.saltreeve_why.Statement.{statement}
