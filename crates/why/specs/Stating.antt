@@ -56,11 +56,9 @@ NextStatement false sheet t x done r = x .statements ≡ done
 pub record Next (sheet : List ℕ) (t : Table) (at k : ℕ) (r : StatementLine) : Type 0 where
   pub statement : (x : Said) (done : List SheetStatement) → Passing sheet t x done at k → NextStatement (r .found) sheet t x done r
   pub later : at < r .past
-  pub far : r .found ≡ true → at + 5 ≤ r .past
   pub inside : r .past ≤ length sheet + 2
 
 -- the first statement of an accepted sheet
 pub record Opened (sheet : List ℕ) (t : Table) (r : StatementLine) : Type 0 where
   pub statement : (x : Said) → outcome sheet ≡ accepted x → x .names ≡ namesOf sheet t → NextStatement (r .found) sheet t x [] r
-  pub far : r .found ≡ true → 5 ≤ r .past
   pub inside : r .past ≤ length sheet + 2

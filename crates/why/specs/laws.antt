@@ -2,11 +2,11 @@
 pub mod Reason
 pub mod Long
 pub mod Stating
+pub mod Few
 pub mod Gather
 pub mod Listed
 pub mod Rising
 pub mod Explained
-pub mod Few
 pub mod Finding
 pub mod Pointed
 pub mod Settled

@@ -1,19 +1,19 @@
 -- `why::write` meets its contract: the lines of those marked of the n statements passed are listed, and q comes next. Assumes nothing.
 use mathlib.Core.Path.{_≡_, refl, _∙_}
-use mathlib.Core.Bool.{true}
-use Prim.Native.Nat.{_+_, _*_, _-_, _≤_}
+use Prim.Native.Nat.{_+_, _-_, _≤_}
 use native.Mathlib.Omega.{arith}
 use lib.ListN.{length}
 use Rattle.sheet.specs.laws.Pass.{accepted-start}
 use Rattle.why.specs.Asked.{Of}
 use Rattle.why.specs.Stating.{foundStatement}
+use Rattle.why.specs.laws.Few.{turn-few}
 use Rattle.why.specs.laws.Listed.{Putting, put-le, put-length, putting-listed, putting-more, putting-none}
 use Rattle.why.specs.laws.Stating.{Turn, turn-end, turn-next, turn-paused, turn-start}
 use Rattle.why.proofs.write.Statement.{statement}
 use Rattle.why.proofs.write.Tie as tie
 
 abbrev Inv-loop : tie.InvT-loop
-Inv-loop sheet t marks list₀ q₀ n₀ total₀ list q n total = Of sheet t (λ x. Turn sheet t x (Putting marks list₀ list total) q n) × (n ≤ q .past) × (q .past ≤ length sheet + 2) × (total ≤ n) × (length list ≡ length list₀) × (q .found ≡ true → 5 * n + 5 ≤ q .past)
+Inv-loop sheet t marks list₀ q₀ n₀ total₀ list q n total = Of sheet t (λ x. Turn sheet t x (Putting marks list₀ list total) q n) × (n ≤ q .past) × (q .past ≤ length sheet + 2) × (total ≤ n) × (length list ≡ length list₀)
 
 abbrev μ-loop : tie.MeasureT-loop
 μ-loop sheet t marks list₀ q₀ n₀ total₀ list q n total = length sheet + 2 - q .past
@@ -22,10 +22,10 @@ first-requires : tie.Need-first-requires Inv-loop μ-loop
 first-requires c κs = (c .before .before .pre .0, c .before .before .pre .1)
 
 loop-holds : tie.Need-loop-holds Inv-loop μ-loop
-loop-holds c = ((λ x o m. turn-start (c .first .ensures) o m putting-none), omega arith, c .first .ensures .inside, omega arith, refl, λ f. omega (arith, (c .first .ensures .far) f))
+loop-holds c = ((λ x o m. turn-start (c .first .ensures) o m putting-none), omega arith, c .first .ensures .inside, omega arith, refl)
 
 has-requires : tie.Need-has-requires Inv-loop μ-loop
-has-requires c κs = omega (arith, (c .before .before .loop .inv .5) (c .before .loop-test .taken), (c .before .before .loop .inv .2), accepted-start _ _ (c .before .before .before .before .before .before .pre .1 .ends) .0)
+has-requires c κs = turn-few ((c .before .before .loop .inv .0) _ (c .before .before .before .before .before .before .pre .1 .ends) (c .before .before .before .before .before .before .pre .1 .names)) (c .before .loop-test .taken) (c .before .before .before .before .before .before .pre .1 .ends)
 
 put-requires : tie.Need-put-requires Inv-loop μ-loop
 put-requires c κs = (omega (arith, (c .before .before .before .loop .inv .1), (c .before .before .before .loop .inv .2), (c .before .before .before .loop .inv .3), accepted-start _ _ (c .before .before .before .before .before .before .before .pre .1 .ends) .0), omega (arith, turn-paused ((c .before .before .before .loop .inv .0) _ (c .before .before .before .before .before .before .before .pre .1 .ends) (c .before .before .before .before .before .before .before .pre .1 .names)) (c .before .before .loop-test .taken) .passing .near, (c .before .before .before .loop .inv .2), accepted-start _ _ (c .before .before .before .before .before .before .before .pre .1 .ends) .0))
@@ -51,7 +51,6 @@ loop-again c = (
   (c .next .ensures .inside),
   omega (arith, put-le (c .before .before .before .before .put .ensures), (c .before .before .before .before .before .before .before .before .loop .inv .3)),
   put-length (c .before .before .before .before .put .ensures) ∙ c .before .before .before .before .before .before .before .before .loop .inv .4,
-  (λ f. omega (arith, (c .next .ensures .far) f, (c .before .before .before .before .before .before .before .before .loop .inv .5) (c .before .before .before .before .before .before .before .loop-test .taken))),
 )
 
 same-length : tie.Need-same-length Inv-loop μ-loop

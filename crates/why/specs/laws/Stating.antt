@@ -4,7 +4,7 @@ use mathlib.Core.Bool.{Bool, true, false, cond, true≢false}
 use mathlib.Core.List.{List, [], _∷_, _++_}
 use Prim.Native.Nat.{ℕ, _+_, _-_, _≤_, _<_, zero-le}
 use native.Mathlib.Omega.{arith}
-use lib.ListN.{length, drop, length-append, length-take}
+use lib.ListN.{length, length-append}
 use Rattle.text.specs.Bytes.{partOf, place, same}
 use Rattle.text.specs.Split.{endOf, fields, partsFrom, split}
 use Rattle.text.specs.laws.Split.{end-ge, end-le, parts-next, parts-none}
@@ -25,7 +25,6 @@ use Rattle.sheet.specs.laws.Pass.{accepted-start, accepted-step, saidOf}
 use Rattle.sheet.specs.laws.Settled.{sheet-settled}
 use Rattle.why.specs.declared.StatementLine.{StatementLine}
 use Rattle.why.specs.Stating.{LineStatement, Next, NextStatement, Opened, Passing, Paused, foundStatement}
-use Rattle.why.specs.laws.Long.{line-long}
 
 -- ---- one line
 
@@ -123,12 +122,6 @@ module _ {sheet : List ℕ} {t : Table} {x : Said} {done : List SheetStatement} 
       right-word : Right (p .said .names) (dues (lineupOf (form.Statement w) (length (bodyOf (fields l))))) (bodyOf (fields l))
       right-word = let a = line-accepted (p .said .names) (marksOf (p .said)) l (statement-some l w f) (stepped .0) .1 in (rw f at a) .right
 
-      -- it is long
-      far-word : at + 5 ≤ e + 1
-      far-word =
-          let h = line-long (p .said .names) l w f right-word in
-          omega (arith, h, ap length is, length-take (e - at) (drop at sheet), ends, end-ge 10 sheet at)
-
       -- its numbers are below their counts
       within-word : Within (countsOf (x .names)) (cellOf (statementOf (namesOf sheet t) w (bodyOf (fields l))))
       within-word =
@@ -151,12 +144,6 @@ module _ {sheet : List ℕ} {t : Table} {x : Said} {done : List SheetStatement} 
       -- the place past the line of a statement
       pub passing-past : r .found ≡ true → r .past ≡ e + 1
       passing-past f = ap (λ (u : StatementLine). u .past) (saying-found k (e + 1) (namesOf sheet t) (bodyOf (fields l)) r (formOf (fields l)) q f .2)
-
-      -- it is far enough
-      pub passing-far : r .found ≡ true → at + 5 ≤ r .past
-      passing-far f =
-          let z = saying-found k (e + 1) (namesOf sheet t) (bodyOf (fields l)) r (formOf (fields l)) q f in
-          omega (arith, far-word (z .0) (z .1), passing-past f)
 
       -- one statement more
       pub passing-statement : r .found ≡ true → Passing sheet t x (done ++ foundStatement r ∷ []) (r .past) (r .line + 1) × Within (countsOf (x .names)) (cellOf (r .statement))
