@@ -11,8 +11,9 @@ use Rattle.sheet.specs.Names.{countsOf}
 use Rattle.sheet.specs.Promise.{Held, refusedText}
 use Rattle.sheet.specs.Said.{Said, SheetRule, SheetStatement, outcome}
 use Rattle.sheet.specs.Said.Outcome.{accepted, refused as refusedAt}
-use Rattle.why.specs.Finding.{BrokenSub}
+use Rattle.why.specs.Finding.{BrokenSub, notBroken}
 use Rattle.why.specs.Listed.{linesOf}
+use Rattle.why.specs.Promise.{notTrue}
 use Rattle.why.specs.Reason.{Reason}
 use Rattle.answer.specs.Question.{AsksCell, AsksFinding, aboutFinding, bare}
 use Rattle.answer.specs.Text.{absentText, reasonText}
@@ -27,16 +28,16 @@ ruleLine x k = getD (map (λ (r : SheetRule). r .line) (x .rules)) k 0
 pub data Answers (sheet question : List ℕ) : List ℕ → Type 0 where
   refused : {n k : ℕ} {x : Said} → outcome sheet ≡ refusedAt n k x → Answers sheet question (refusedText n k)
   not-true : {x : Said} {t : List ℕ} → outcome sheet ≡ accepted x → Held x t → aboutFinding (bare question) ≡ false
-      → ((c : Cell) → AsksCell (x .names) (bare question) c → ¬ (Holds width (countsOf (x .names)) t c)) → Answers sheet question (refusedText 0 24)
+      → ((c : Cell) → AsksCell (x .names) (bare question) c → ¬ (Holds width (countsOf (x .names)) t c)) → Answers sheet question (refusedText 0 notTrue)
   found : {x : Said} {c : Cell} {ls : List SheetStatement} → outcome sheet ≡ accepted x → aboutFinding (bare question) ≡ false → AsksCell (x .names) (bare question) c
       → Reason (countsOf (x .names)) c (x .statements) ls → Answers sheet question (reasonText sheet (linesOf ls) [])
   not-broken : {x : Said} {t : List ℕ} → outcome sheet ≡ accepted x → Held x t → aboutFinding (bare question) ≡ true
-      → ((k a c d : ℕ) → AsksFinding (x .names) (bare question) (ruleLine x k) a → ¬ (BrokenSub (countsOf (x .names)) x t k a c d)) → Answers sheet question (refusedText 0 25)
+      → ((k a c d : ℕ) → AsksFinding (x .names) (bare question) (ruleLine x k) a → ¬ (BrokenSub (countsOf (x .names)) x t k a c d)) → Answers sheet question (refusedText 0 notBroken)
   broken : {x : Said} {t : List ℕ} {k a c d : ℕ} {ls : List SheetStatement} → outcome sheet ≡ accepted x → Held x t → AsksFinding (x .names) (bare question) (ruleLine x k) a
       → BrokenSub (countsOf (x .names)) x t k a c d → Reason (countsOf (x .names)) (In a c) (x .statements) ls
       → Answers sheet question (reasonText sheet (linesOf ls) (absentText (x .names) a d))
 
--- a text has r bytes; it is at the start of the room if it has place there, and otherwise the room is as it was
+-- a text has r bytes, few enough for a signed number; it is at the start of the room if it has place there, and otherwise the room is as it was
 pub record Fitted (text room exit : List ℕ) (r : ℕ) : Type 0 where
   pub long : r ≡ length text
   pub written : length text ≤ length room → exit ≡ text ++ drop (length text) room

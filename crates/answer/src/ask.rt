@@ -1,4 +1,4 @@
-// What a question asks for. What is public here is a part with a `requires`, not an entry point.
+// What a question asks for. What is public here is a part for `reply`, not an entry point.
 ghost use mathlib.Core.Path.{_≡_};
 ghost use mathlib.Core.Bool.{true, false};
 ghost use Rattle.text.specs.Bytes.{same};

@@ -15,6 +15,7 @@ ghost use Rattle.answer.specs.Writing.{Accepted, LinesPut, PutIf, Reason
 use crate::Absent;
 use crate::Printed;
 use closure::Item;
+use closure::Store;
 use reason::Lines;
 use sheet::Form;
 use sheet::Table;
@@ -113,7 +114,7 @@ fn concept(sheet: &[u8], t: Table, c: usize) -> &[u8]
     let entries = t.concepts;
     let none = text::part::part(sheet, 0, 0);
     if c < counts.concepts {
-        if c < 32 {
+        if c < Store::CONCEPTS {
             return sheet::names::name_at(sheet, entries[c]);
         }
         return none;

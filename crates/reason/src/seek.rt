@@ -19,7 +19,7 @@ pub fn mark(marks: &mut [u64; Lines::WORDS], n: usize)
     marks[h] = row::bit::or_if(true, row::bit::one_bit((n % 64) as u64), marks[h]);
 }
 
-// Marks statements of a kind by which the goal is reached, and by no part of them with one taken out.
+// Marks statements of a kind by which the goal is reached, and by no part of them with one taken out. The place that is marked, `end`, falls from turn to turn.
 pub fn narrow(codes: &[u32], kind: Kind, nodes: usize, goal: Goal, marks: &mut [u64; Lines::WORDS])
     requires { ⌜ Wanted kind nodes goal (now codes) (now marks) ⌝ }
     ensures { λ _. ⌜ Narrowest kind goal (now (codes .entry)) (now (marks .exit)) ⌝ }

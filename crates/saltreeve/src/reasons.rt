@@ -91,5 +91,5 @@ pub extern "C" fn saltreeve_explain_finding(
 ) -> i64
     ensures { λ r. ⌜ PointCode (now (sheet .entry)) (now (words .entry)) (now (words .exit)) rule item (now (list .entry)) (now (list .exit)) r ⌝ }
 {
-    pointed(why::finding::explain(sheet, words, rule, item, list))
+    pointed(why::finding::explain(sheet, words, rule, Item(item), list))
 }

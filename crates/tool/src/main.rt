@@ -69,7 +69,7 @@ fn print_all(sheet: &[u8]) {
     print_lines(sheet, text::part::part(&room, 0, n));
 }
 
-// Answers the question that the program was started with, or all questions if there is none.
+// Answers the question that the program was started with, or all questions if there is none. One that is cut at 1,024 bytes is still answered rightly: no statement and no finding has so many.
 fn answer_all(sheet: &[u8]) {
     if os::arg_count() < 4 {
         print_all(sheet);
@@ -115,7 +115,9 @@ fn main() {
     let mut path = io::buffer();
     let n = os::arg(2, &mut path);
     if os::errno() != 0 {
-        complain(b"tool: give a verb and a file, as in: tool why FILE\n");
+        complain(
+            b"tool: give a verb and a file whose name is not too long, as in: tool why FILE\n",
+        );
         return;
     }
     if !asked_why() {

@@ -145,8 +145,8 @@ pub fn broken(sheet: &[u8], t: Table, words: &[u64], k: usize, a: usize) -> Side
 
 // Reads a sheet into the lent store, and lists statement lines from which it follows that the item a is in the left concept of the rule with the number k, and from no part of them with a line
 // taken out: the first ones as far as the list reaches; says how many they are in all, and the right concept, in which the item is not; or why not.
-pub fn explain(sheet: &[u8], words: &mut [u64], k: usize, a: usize, room: &mut [u32]) -> Pointed
-    ensures { λ r. ⌜ Points (now (sheet .entry)) (now (words .entry)) (now (words .exit)) k a (now (room .entry)) (now (room .exit)) r ⌝ }
+pub fn explain(sheet: &[u8], words: &mut [u64], k: usize, a: Item, room: &mut [u32]) -> Pointed
+    ensures { λ r. ⌜ Points (now (sheet .entry)) (now (words .entry)) (now (words .exit)) k (a .0) (now (room .entry)) (now (room .exit)) r ⌝ }
 {
     if words.len() != Store::WORDS {
         return Pointed::Refused(0, 1);
@@ -157,11 +157,11 @@ pub fn explain(sheet: &[u8], words: &mut [u64], k: usize, a: usize, room: &mut [
     }
     let kept = e.kept;
     let t = kept.table;
-    let s = broken(sheet, t, words, k, a);
+    let s = broken(sheet, t, words, k, a.0);
     if !s.named {
         return Pointed::Refused(0, 25);
     }
-    let left = Statement::In(Item(a), Concept(s.left));
+    let left = Statement::In(a, Concept(s.left));
     let total = crate::list(sheet, t, left, room);
     Pointed::Lines(total, Concept(s.right))
 }

@@ -1,4 +1,4 @@
-// The statements of a sheet as numbers, and a reason among them.
+// The statements of a sheet as numbers, and a reason among them. What is public here is a part with a `requires`, not an entry point.
 ghost use mathlib.Core.Path.{_≡_};
 ghost use lib.ListN.{length};
 ghost use Rattle.closure.specs.Cell.{cellOf};

@@ -22,6 +22,7 @@ use Rattle.sheet.specs.Said.Outcome.{accepted}
 use Rattle.sheet.specs.Words.{Field, bodyOf, formOf, lineForm}
 use Rattle.sheet.specs.laws.Pass.{accepted-start, accepted-step, saidOf}
 use Rattle.why.specs.Listed.{linesOf}
+use Rattle.why.specs.laws.Listed.{lines-more}
 use Rattle.answer.specs.declared.Printed.{Printed}
 use Rattle.answer.specs.Text.{linesText, numberedText}
 use Rattle.answer.specs.Writing.{Accepted, PutIf, statementForm}
@@ -38,16 +39,12 @@ pub statement-long : (l : List ℕ) → statementForm (formOf (fields l)) ≡ tr
 statement-long [] e = absurd (true≢false (sym e ∙ empty-line))
 statement-long (b ∷ l) e = omega arith
 
-lines-of-more : (ls : List SheetStatement) (l : SheetStatement) → linesOf (ls ++ l ∷ []) ≡ linesOf ls ++ l .line ∷ []
-lines-of-more [] l = refl
-lines-of-more (k ∷ ls) l = ap (_∷_ (k .line)) (lines-of-more ls l)
-
 -- a line that is none leaves the lines of statements; one that is one adds its number
 saying-lines : (k : ℕ) (s : Said) (f : Form) (fs : List Field) → linesOf (saying k s f fs .statements) ≡ linesOf (s .statements) ++ cond (statementForm f) (k ∷ []) []
 saying-lines k s form.Concept fs = sym (append-nil (linesOf (s .statements)))
 saying-lines k s form.Role fs = sym (append-nil (linesOf (s .statements)))
 saying-lines k s form.Item fs = sym (append-nil (linesOf (s .statements)))
-saying-lines k s (form.Statement w) fs = lines-of-more (s .statements) _
+saying-lines k s (form.Statement w) fs = lines-more (s .statements) _
 saying-lines k s (form.Rule w) fs = sym (append-nil (linesOf (s .statements)))
 saying-lines k s form.Bare fs = sym (append-nil (linesOf (s .statements)))
 saying-lines k s form.Unknown fs = sym (append-nil (linesOf (s .statements)))
