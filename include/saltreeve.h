@@ -138,8 +138,8 @@ int64_t saltreeve_check(const uint8_t *sheet, size_t sheet_length,
 /*
  * Says why: writes to `room` the text for a question about a sheet. The question
  * is one line, with or without a line feed at its end: a statement line, judged
- * as it would be in the sheet after its statements, or a line that the text of
- * saltreeve_check has for a finding. The text is a line for each statement line
+ * as it would be in the sheet after its statements, or a line as the text of
+ * saltreeve_check has them for findings. The text is a line for each statement line
  * of a reason, in the order of the sheet, for a finding a line that names the
  * cell that is absent, and the total of the statement lines; or one line:
  * `refused` with what the sheet is refused for, or, for an accepted sheet, with
@@ -147,8 +147,8 @@ int64_t saltreeve_check(const uint8_t *sheet, size_t sheet_length,
  *
  *   24  the question is no statement line that the sheet would take, or its cell
  *       is not true
- *   25  the question is a finding's line, and is no finding of a rule `sub` with
- *       concept names on both sides
+ *   25  the first field of the question is `finding`, and it is no finding of a
+ *       rule `sub` with concept names on both sides
  *
  * The cell follows from the lines of a reason alone, and from no part of them
  * with a line taken out. Where there are several reasons, any one of them is
