@@ -80,7 +80,7 @@ bare-nothing (b ∷ q) h = absurd (omega arith)
 -- ---- a finding
 
 -- the fields of a line that has three
-pub three-fields : (q : List ℕ) → length (fields q) ≡ 3 → fields q ≡ fieldFrom q 0 ∷ fieldFrom q (pastField q 0) ∷ fieldFrom q (pastField q (pastField q 0)) ∷ []
+three-fields : (q : List ℕ) → length (fields q) ≡ 3 → fields q ≡ fieldFrom q 0 ∷ fieldFrom q (pastField q 0) ∷ fieldFrom q (pastField q (pastField q 0)) ∷ []
 three-fields q e = sym (parts-all 9 q) ∙ go
   where
     parts : ℕ → List Field
@@ -168,7 +168,7 @@ pub record NoneYet (n : Counts) (x : Said) (s : List ℕ) (f : Field) (a m : ℕ
   pub none : (k c d : ℕ) → k < m → same f (decimal (ruleLine x k)) ≡ true → ¬ (BrokenSub n x s k a c d)
 
 -- the line of the rule after those done
-pub rule-line : (x : Said) (done rest : List SheetRule) (l : SheetRule) (k : ℕ) → x .rules ≡ done ++ l ∷ rest → k ≡ length done → ruleLine x k ≡ l .line
+rule-line : (x : Said) (done rest : List SheetRule) (l : SheetRule) (k : ℕ) → x .rules ≡ done ++ l ∷ rest → k ≡ length done → ruleLine x k ≡ l .line
 rule-line x done rest l k e h = ap (λ (rs : List SheetRule). getD (map (λ (r : SheetRule). r .line) rs) k 0) e ∙ ap (λ (i : ℕ). getD (map (λ (r : SheetRule). r .line) (done ++ l ∷ rest)) i 0) h ∙ at-end done
   where
     at-end : (ls : List SheetRule) → getD (map (λ (r : SheetRule). r .line) (ls ++ l ∷ rest)) (length ls) 0 ≡ l .line
@@ -191,7 +191,7 @@ module _ (n : Counts) (x : Said) (s : List ℕ) (f : Field) (a : ℕ) where
     broken-if h = subst (λ (i : Counts). BrokenIf (r .named) i x s m a r) (sym counts) (z .breaking h x o e)
 
     -- one rule more that is not
-    pub none-more : r .named ≡ false → NoneYet n x s f a m → NoneYet n x s f a (m + 1)
+    none-more : r .named ≡ false → NoneYet n x s f a m → NoneYet n x s f a (m + 1)
     none-more h w = record { none = none }
       where
         none : (k c d : ℕ) → k < m + 1 → same f (decimal (ruleLine x k)) ≡ true → ¬ (BrokenSub n x s k a c d)
@@ -205,7 +205,7 @@ module _ (n : Counts) (x : Said) (s : List ℕ) (f : Field) (a : ℕ) where
                 subst (λ (j : ℕ). ¬ (BrokenSub n x s j a c d)) (sym i) (subst (λ (v : Bool). BrokenIf v n x s m a r) h (broken-if y) c d)
 
     -- a rule that is
-    pub some-broken : r .named ≡ true → BrokenIn n x s f a (r .left) (r .right)
+    some-broken : r .named ≡ true → BrokenIn n x s f a (r .left) (r .right)
     some-broken h = by on refl
       where
         by : (b : Bool) → on ≡ b → BrokenIn n x s f a (r .left) (r .right)

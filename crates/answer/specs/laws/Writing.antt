@@ -35,7 +35,7 @@ unfolding split lineForm same place
 empty-line = refl
 
 -- the line of a statement has a byte
-pub statement-long : (l : List ℕ) → statementForm (formOf (fields l)) ≡ true → 1 ≤ length l
+statement-long : (l : List ℕ) → statementForm (formOf (fields l)) ≡ true → 1 ≤ length l
 statement-long [] e = absurd (true≢false (sym e ∙ empty-line))
 statement-long (b ∷ l) e = omega arith
 
@@ -84,7 +84,7 @@ standing-start sheet x e ends o =
 
 module _ {sheet : List ℕ} {x : Said} {done : List ℕ} {at k : ℕ} (p : Standing sheet x done at k) where
   -- no line is left: all statements are done
-  pub standing-end : length sheet < at → linesOf (x .statements) ≡ done
+  standing-end : length sheet < at → linesOf (x .statements) ≡ done
   unfolding outcomeFrom
   standing-end g =
       let e : accepted (p .said) ≡ accepted x = rw (parts-none 10 sheet at g) at (p .rest) in
@@ -96,12 +96,12 @@ module _ {sheet : List ℕ} {x : Said} {done : List ℕ} {at k : ℕ} (p : Stand
     parted = parts-next 10 sheet at g ∙ rw (← ends, ← is)
 
     -- it is the line with the number k
-    pub standing-line : getD (lines sheet) (k - 1) [] ≡ l
+    standing-line : getD (lines sheet) (k - 1) [] ≡ l
     standing-line =
         let z : k - 1 + 0 ≡ k - 1 = omega arith in
         ap (λ (i : ℕ). getD (lines sheet) i []) (sym z) ∙ sym (getD-drop (k - 1) (lines sheet) 0 []) ∙ ap (λ (ls : List (List ℕ)). getD ls 0 []) (p .left ∙ parted)
 
-    pub standing-next : Standing sheet x (done ++ cond (statementForm (formOf (fields l))) (k ∷ []) []) (e + 1) (k + 1)
+    standing-next : Standing sheet x (done ++ cond (statementForm (formOf (fields l))) (k ∷ []) []) (e + 1) (k + 1)
     standing-next =
         record {
           said = lineSaid k (p .said) l;
@@ -114,7 +114,7 @@ module _ {sheet : List ℕ} {x : Said} {done : List ℕ} {at k : ℕ} (p : Stand
         }
 
     -- a statement of the line is one of the sheet's
-    pub standing-few : statementForm (formOf (fields l)) ≡ true → length done < length (x .statements)
+    standing-few : statementForm (formOf (fields l)) ≡ true → length done < length (x .statements)
     standing-few s =
         let z = standing-next in
         let r = lines-rest (k + 1) (z .said) x (partsFrom 10 sheet (e + 1)) (z .rest) in

@@ -47,7 +47,7 @@ places-fit n kind.Same f = f .items
 places-fit n kind.Under f = omega arith
 places-fit n kind.Role f = omega arith
 
-pub places-above : (n : Counts) (g : Fact) → placesOf n (kindAbove g) ≡ placesAbove
+places-above : (n : Counts) (g : Fact) → placesOf n (kindAbove g) ≡ placesAbove
 places-above n g = go (eqb (g .sort) 1)
   where
     go : (b : Bool) → placesOf n (cond b kind.Under kind.Role) ≡ placesAbove
@@ -62,13 +62,13 @@ fact-bounded (RoleUnder r u s) f h z = record { above = omega arith; first = z; 
 fact-bounded (In a b) f h z = record { above = omega (arith, f .concepts, h .1); first = h .0; second = h .0 }
 fact-bounded (Link r a b) f h z = record { above = omega (arith, f .roles, h .0); first = h .1; second = h .2 }
 
-pub straight-within : {n : Counts} {f g : Fact} → Bounded n f → Bounded n g → Inside n (straight f g)
+straight-within : {n : Counts} {f g : Fact} → Bounded n f → Bounded n g → Inside n (straight f g)
 straight-within b d = record { from = omega (arith, b .above); to = omega (arith, d .above); a = b .first; b = d .first; c = b .second; d = d .second }
 
-pub turned-within : {n : Counts} {f g : Fact} → Bounded n f → Bounded n g → Inside n (turned f g)
+turned-within : {n : Counts} {f g : Fact} → Bounded n f → Bounded n g → Inside n (turned f g)
 turned-within b d = record { from = omega (arith, b .above); to = omega (arith, d .above); a = b .first; b = d .second; c = b .second; d = d .first }
 
-pub bounded-small : {n : Counts} {f : Fact} → Fits width n → Bounded n f → Small f
+bounded-small : {n : Counts} {f : Fact} → Fits width n → Bounded n f → Small f
 bounded-small h b = record { above = b .above; first = omega (arith, h .items, b .first); second = omega (arith, h .items, b .second) }
 
 pub straight-near : {f g : Fact} → Small f → Small g → Near (straight f g)
@@ -80,14 +80,14 @@ turned-near b d = record { from = omega (arith, b .above); to = omega (arith, d 
 -- ---- ways and routes
 
 module _ {n : Counts} {codes t : List ℕ} {U : Cell → Type 0} {k : Kind} (r : Route) (w : Inside n r) (h : Tabled t kind.Same (n .items) codes) where
-  pub above-leads : Along (Coded codes) U k r → Leads U k (aboveBy t r)
+  above-leads : Along (Coded codes) U k r → Leads U k (aboveBy t r)
   above-leads l = record {
     on = both-on (r .on) _ (l .on) (both-on (leadsb t (r .a) (r .b)) _ (decided (h .leads (r .a) (r .b) (w .a) (w .b)) (l .first)) (decided (h .leads (r .c) (r .d) (w .c) (w .d)) (l .second)));
     first = l .above;
     second = l .above;
   }
 
-  pub leads-above : Leads U k (aboveBy t r) → Along (Coded codes) U k r
+  leads-above : Leads U k (aboveBy t r) → Along (Coded codes) U k r
   leads-above l = record {
     on = left-on (r .on) _ (l .on);
     above = l .first;
@@ -96,10 +96,10 @@ module _ {n : Counts} {codes t : List ℕ} {U : Cell → Type 0} {k : Kind} (r :
   }
 
 module _ {n : Counts} {codes t : List ℕ} {S : Cell → Type 0} {k : Kind} (r : Route) (w : Inside n r) (h : Tabled t k placesAbove codes) where
-  pub same-leads : Along S (Coded codes) k r → Leads S kind.Same (sameBy t r)
+  same-leads : Along S (Coded codes) k r → Leads S kind.Same (sameBy t r)
   same-leads l = record { on = both-on (r .on) _ (l .on) (decided (h .leads (r .from) (r .to) (w .from) (w .to)) (l .above)); first = l .first; second = l .second }
 
-  pub leads-same : Leads S kind.Same (sameBy t r) → Along S (Coded codes) k r
+  leads-same : Leads S kind.Same (sameBy t r) → Along S (Coded codes) k r
   leads-same l = record { on = left-on (r .on) _ (l .on); above = h .leads (r .from) (r .to) (w .from) (w .to) .holds (right-on (r .on) _ (l .on)); first = l .first; second = l .second }
 
 -- whether steps lead along a route
@@ -114,7 +114,7 @@ opens-decides {n} {g} {codes} {t} {u} r w h = record { holds = yes-so; fails = �
     not-so : Along (Coded codes) (Coded codes) (kindAbove g) r → opensb t u r ≡ true
     not-so l = both-on (aboveBy t r .on) (leadsb u (r .from) (r .to)) (above-leads r w (h .of-same) l .on) (decided (h .of-above .leads (r .from) (r .to) (w .from) (w .to)) (l .above))
 
-pub meets-decides : {n : Counts} {f g : Fact} {codes t u : List ℕ} → Bounded n f → Bounded n g → Tables n g codes t u → Decides (meetsb t u f g) (Meets (Coded codes) (Coded codes) f g)
+meets-decides : {n : Counts} {f g : Fact} {codes t u : List ℕ} → Bounded n f → Bounded n g → Tables n g codes t u → Decides (meetsb t u f g) (Meets (Coded codes) (Coded codes) f g)
 meets-decides {f = f} {g = g} b d h = decides-either (opens-decides (straight f g) (straight-within b d) h) (opens-decides (turned f g) (turned-within b d) h)
 
 -- ---- goals
@@ -144,11 +144,11 @@ module _ {n : Counts} {f g : Fact} (b : Bounded n f) (d : Bounded n g) where
 
 module _ {n : Counts} {g : Fact} {codes : List ℕ} (w : Aimed n g codes) where
   -- each number states a fact below the limits
-  pub bounded-at : (i : ℕ) → i < length codes → Bounded n (factAt codes i)
+  bounded-at : (i : ℕ) → i < length codes → Bounded n (factAt codes i)
   bounded-at i h = fact-bounded (cellAt (getD codes i 0)) (w .fits) (w .within (getD codes i 0) (one-at codes i 0 h)) (omega (arith, w .bounded .first))
 
   -- from one of them steps lead to the fact
-  pub meets-somewhere : ((i : ℕ) → i < length codes → ¬ (Meets (Coded codes) (Coded codes) (factAt codes i) g)) → ⊥
+  meets-somewhere : ((i : ℕ) → i < length codes → ¬ (Meets (Coded codes) (Coded codes) (factAt codes i) g)) → ⊥
   meets-somewhere f = by (w .found .cell) (w .found .has) (w .found .meets)
     where
       by : (c : Cell) → Coded codes c → Meets (Coded codes) (Coded codes) (factOf c) g → ⊥

@@ -61,10 +61,6 @@ module _ {A : Type 0} where
   part-nothing [] = none
   part-nothing (x ∷ xs) = leave (part-nothing xs)
 
-  -- a part of the second list is a part of both
-  pub part-after : (xs : List A) {ps ys : List A} → Part ps ys → Part ps (xs ++ ys)
-  part-after [] p = p
-  part-after (x ∷ xs) p = leave (part-after xs p)
 
   -- the whole list with one element taken out
   pub record Lacks (fewer all : List A) : Type 0 where
@@ -75,7 +71,7 @@ module _ {A : Type 0} where
     pub within : (x : A) → One x fewer → One x (before ++ after)
 
   -- a part that has fewer elements lacks one
-  pub part-lacks : {ps xs : List A} → Part ps xs → length ps < length xs → Lacks ps xs
+  part-lacks : {ps xs : List A} → Part ps xs → length ps < length xs → Lacks ps xs
   part-lacks none h = absurd (omega arith)
   part-lacks (keep {x = y} {ps = ps} {xs = xs} p) h = more (part-lacks p (omega arith))
     where

@@ -63,7 +63,7 @@ module _ {A : Type 0} where
       picked-append m 0 xs (y ∷ []) ∙ ap (λ (zs : List A). pickedFrom m 0 xs ++ zs) (picked-first m (0 + length xs) y [] b (let q : 0 + length xs ≡ length xs = omega arith in ap m q ∙ e))
 
   -- one mark more, below all others, puts its element first
-  pub picked-set : (m m′ : ℕ → Bool) (n : ℕ) (xs ys : List A) (y : A) → n ≡ length xs → Sets m n m′ → ((j : ℕ) → j ≤ n → m j ≡ false) → pickedFrom m′ 0 (xs ++ y ∷ ys) ≡ y ∷ pickedFrom m 0 (xs ++ y ∷ ys)
+  picked-set : (m m′ : ℕ → Bool) (n : ℕ) (xs ys : List A) (y : A) → n ≡ length xs → Sets m n m′ → ((j : ℕ) → j ≤ n → m j ≡ false) → pickedFrom m′ 0 (xs ++ y ∷ ys) ≡ y ∷ pickedFrom m 0 (xs ++ y ∷ ys)
   picked-set m m′ n xs ys y e s clear =
       let new : pickedFrom m′ 0 xs ≡ [] = picked-none m′ 0 xs (λ j h g. s .1 j (λ q. omega arith) ∙ clear j (omega arith)) in
       let old : pickedFrom m 0 xs ≡ [] = picked-none m 0 xs (λ j h g. clear j (omega arith)) in
@@ -82,7 +82,7 @@ module _ {A : Type 0} where
   cons-tail e = cc
 
   -- the one that ends before an element is the longer one, or the element is in the other
-  pub beginnings : (f front : List A) (l : A) (g back : List A) → f ++ l ∷ g ≡ front ++ back → ((more : List A) × (front ≡ f ++ l ∷ more)) ⊎ ((more : List A) × (f ≡ front ++ more))
+  beginnings : (f front : List A) (l : A) (g back : List A) → f ++ l ∷ g ≡ front ++ back → ((more : List A) × (front ≡ f ++ l ∷ more)) ⊎ ((more : List A) × (f ≡ front ++ more))
   beginnings f [] l g back e = inr (f, refl)
   beginnings [] (x ∷ front) l g back e = inl (front, ap (λ (z : A). z ∷ front) (sym (cons-head e)))
   beginnings (y ∷ f) (x ∷ front) l g back e = go (beginnings f front l g back (cons-tail e))

@@ -26,7 +26,7 @@ pub data Placed {A : Type 0} (x : A) (j : ℕ) : ℕ → List A → Type 0 where
 unfoldable pub off : (ℕ → Bool) → ℕ → ℕ → Bool
 off m j i = cond (eqb i j) false (m i)
 
-pub off-at : (m : ℕ → Bool) (j : ℕ) → off m j j ≡ false
+off-at : (m : ℕ → Bool) (j : ℕ) → off m j j ≡ false
 unfolding off
 off-at m j = rw (eq-eqb j j refl)
 
@@ -44,7 +44,7 @@ off-on m j i e = (go (eqb i j) e, λ q. false≢true (sym (off-at m j) ∙ ap (o
     go false f = f
 
 module _ {A : Type 0} where
-  pub placed-from : {x : A} {i j : ℕ} {xs : List A} → Placed x j i xs → i ≤ j
+  placed-from : {x : A} {i j : ℕ} {xs : List A} → Placed x j i xs → i ≤ j
   placed-from here = omega arith
   placed-from (there p) = omega (arith, placed-from p)
 
@@ -98,11 +98,11 @@ module _ {A : Type 0} where
 
   -- what is picked, an element at a place apart
   record Out (m : ℕ → Bool) (i : ℕ) (xs rest : List A) : Type 0 where
-    pub place : ℕ
-    pub at : A
-    pub placed : Placed at place i xs
-    pub on : m place ≡ true
-    pub left : (x : A) → One x rest → One x (pickedFrom (off m place) i xs)
+    place : ℕ
+    at : A
+    placed : Placed at place i xs
+    on : m place ≡ true
+    left : (x : A) → One x rest → One x (pickedFrom (off m place) i xs)
 
   picked-out : (m : ℕ → Bool) (i : ℕ) (xs before after : List A) (out : A) → pickedFrom m i xs ≡ before ++ out ∷ after → Out m i xs (before ++ after)
   unfolding pickedFrom

@@ -74,10 +74,10 @@ module _ {S S′ U U′ : List ℕ} where
   along-by : {k : Kind} {r : Route} → StepsIn kind.Same S S′ → StepsIn k U U′ → Along (Coded S) (Coded U) k r → Along (Coded S′) (Coded U′) k r
   along-by f g l = record { on = l .on; above = walk-by g (l .above); first = walk-by f (l .first); second = walk-by f (l .second) }
 
-  pub meets-by : (f g : Fact) → StepsIn kind.Same S S′ → StepsIn (kindAbove g) U U′ → Meets (Coded S) (Coded U) f g → Meets (Coded S′) (Coded U′) f g
+  meets-by : (f g : Fact) → StepsIn kind.Same S S′ → StepsIn (kindAbove g) U U′ → Meets (Coded S) (Coded U) f g → Meets (Coded S′) (Coded U′) f g
   meets-by f g s u = ⊎-elim (λ l. inl (along-by s u l)) (λ l. inr (along-by s u l))
 
-pub found-grows : (g : Fact) → Grows (λ ls. Found (Coded ls) g)
+found-grows : (g : Fact) → Grows (λ ls. Found (Coded ls) g)
 found-grows g xs ys f w = record { cell = w .cell; has = coded-more f (w .cell) (w .has); meets = meets-by (factOf (w .cell)) g (λ c u v h s. coded-more f c h) (λ c u v h s. coded-more f c h) (w .meets) }
 
 meets-sort : {S U : Cell → Type 0} (f g : Fact) → Meets S U f g → f .sort ≡ g .sort

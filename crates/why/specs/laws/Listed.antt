@@ -68,9 +68,6 @@ module _ {marks before : List ℕ} where
         total = subst (λ (ls : List SheetStatement). q ≡ length ls) (sym e) (total on (p .next));
       }
     where
-      ps : List SheetStatement
-      ps = picked marks done
-
       written : (b : Bool) → then ≡ cond b (set after r (l .line)) after → then ≡ over (linesOf (picked marks done ++ cond b (l ∷ []) [])) before
       written true h =
           h ∙ ap (λ (z : List ℕ). set z r (l .line)) (w .written) ∙ ap (λ (j : ℕ). set (over (linesOf (picked marks done)) before) j (l .line)) (w .total ∙ sym (length-map (picked marks done) (λ (k : SheetStatement). k .line)))

@@ -81,7 +81,7 @@ from-rise k s x [] b e = subst (λ (o : Outcome). Rising (linesOf (saidOf o .sta
 from-rise k s x (l ∷ ls) b e = from-rise (k + 1) (lineSaid k s l) x ls (line-before k s l b) (accepted-step k s x l ls e .1)
 
 -- the statement lines of an accepted sheet have rising numbers
-pub statements-rise : (sheet : List ℕ) (x : Said) → outcome sheet ≡ accepted x → Rising (linesOf (x .statements))
+statements-rise : (sheet : List ℕ) (x : Said) → outcome sheet ≡ accepted x → Rising (linesOf (x .statements))
 statements-rise sheet x o = from-rise 2 nothing x _ (record { rising = none; below = λ y q. absurd (one-none q) }) (accepted-start sheet x o .1)
 
 -- ---- a part of them
