@@ -61,7 +61,6 @@ module _ {A : Type 0} where
   part-nothing [] = none
   part-nothing (x ∷ xs) = leave (part-nothing xs)
 
-
   -- the whole list with one element taken out
   pub record Lacks (fewer all : List A) : Type 0 where
     pub before : List A
