@@ -32,19 +32,33 @@ cellOfKind kind a b c =
     (cond (eqb kind 4) (In a b)
     (cond (eqb kind 5) (Link c a b) (Link roleLimit a b))))))
 
--- a refusal as a signed number: 100 times its line, and its number. A sheet has fewer than 100,000 lines, and no number has three digits
+-- a refusal as a signed number: 100 times its line, and its number. No number has three digits
 abbrev pub refusalCode : ℕ → ℕ → ℤ
-refusalCode line k = negℤ (pos (100 * (line % 1000000) + k % 100))
+refusalCode line k = negℤ (pos (100 * line + k))
 
 -- the number of lines, or a refusal
 abbrev pub explainedCode : Explained → ℤ
-explainedCode (explained.Lines m) = pos (m % 1000000)
+explainedCode (explained.Lines m) = pos m
 explainedCode (explained.Refused line k) = refusalCode line k
 
--- a million times the concept that is absent, and the number of lines; or a refusal. There are fewer than 1,024 concepts, and fewer than a million lines
+-- a million times the concept that is absent, and the number of lines, which is below a million; or a refusal
 abbrev pub pointedCode : Pointed → ℤ
-pointedCode (pointed.Lines m d) = pos (1000000 * (d .0 % 1024) + m % 1000000)
+pointedCode (pointed.Lines m d) = pos (1000000 * d .0 + m)
 pointedCode (pointed.Refused line k) = refusalCode line k
+
+-- a refusal with its numbers cut, so that it fits a word; that of an answer nothing is cut: laws/Bounds (own use)
+abbrev pub cutRefusal : ℕ → ℕ → ℤ
+cutRefusal line k = refusalCode (line % 1000000) (k % 100)
+
+-- an answer, cut (own use)
+abbrev pub cutExplained : Explained → ℤ
+cutExplained (explained.Lines m) = pos (m % 1000000)
+cutExplained (explained.Refused line k) = cutRefusal line k
+
+-- the same for a finding (own use)
+abbrev pub cutPointed : Pointed → ℤ
+cutPointed (pointed.Lines m d) = pos (1000000 * (d .0 % 1024) + m % 1000000)
+cutPointed (pointed.Refused line k) = cutRefusal line k
 
 -- asking why a cell is true gives r
 pub record ExplainCode (sheet s t : List ℕ) (c : Cell) (before after : List ℕ) (r : ℤ) : Type 0 where

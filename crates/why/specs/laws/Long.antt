@@ -26,7 +26,8 @@ abbrev pub total : List (List ℕ) → ℕ
 total [] = 0
 total (p ∷ ps) = suc (length p) + total ps
 
-total-most : (ps : List (List ℕ)) → length ps ≤ total ps
+-- there are no more parts than that
+pub total-most : (ps : List (List ℕ)) → length ps ≤ total ps
 total-most [] = omega arith
 total-most (p ∷ ps) = let h = total-most ps in omega arith
 

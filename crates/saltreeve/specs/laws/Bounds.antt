@@ -1,0 +1,286 @@
+-- No number of an answer is cut: lines, numbers of refusal and concepts are small. Assumes nothing.
+use mathlib.Core.Path.{_≡_, refl, sym, ap, subst}
+use mathlib.Core.Bool.{Bool, true, false, cond, not}
+use mathlib.Core.List.{List, [], _∷_, _++_}
+use Prim.Native.Nat.{ℕ, suc, _+_, _*_, _%_, _≤_, _<_, min}
+use native.Mathlib.Omega.{arith}
+use borrow.Author.Tests.{leb-true}
+use lib.Dec.{eqb, leb, ltb}
+use lib.IntN.{pos, negℤ}
+use lib.ListN.{length, length-append}
+use Rattle.text.specs.Bytes.{every, same}
+use Rattle.text.specs.Date.{dateShaped}
+use Rattle.text.specs.Name.{isName, lineByte}
+use Rattle.text.specs.Split.{fields, split}
+use Rattle.closure.specs.declared.Counts.{Counts}
+use Rattle.closure.specs.Cell.{Cell}
+use Rattle.closure.specs.Layout.{conceptLimit, itemLimit, roleLimit, width}
+use Rattle.rule.specs.declared.Node.{Node}
+use Rattle.rule.specs.declared.Node.the-variants as node
+use Rattle.rule.specs.declared.Rule.{Rule}
+use Rattle.rule.specs.Expr.{Expr, build, exprAt}
+use Rattle.rule.specs.Expr.Expr.{name}
+use Rattle.rule.specs.Form.{HeadFits, NodeWithin, nodeAt, nodeLimit}
+use Rattle.reason.specs.Part.{Part}
+use Rattle.reason.specs.Part.Part.{none as nonePart, keep, leave}
+use Rattle.sheet.specs.declared.Due.{Due}
+use Rattle.sheet.specs.declared.Due.the-variants as due
+use Rattle.sheet.specs.declared.Form.{Form}
+use Rattle.sheet.specs.declared.Form.the-variants as form
+use Rattle.sheet.specs.declared.Marks.{Marks}
+use Rattle.sheet.specs.declared.Reading.the-variants as reading
+use Rattle.sheet.specs.Due.{dues, fits, lineupOf, next}
+use Rattle.sheet.specs.Fault.{ended, fieldsFault, formFault, full, header, headerFault, lineFault, lineLimit, none, sheetLimit, unknown}
+use Rattle.sheet.specs.Names.{Names, countsOf, declared, fault, fieldFault, fieldFaults, isCount, lowerFault, nameFault, newFault, nodesIn, plain, reserved}
+use Rattle.sheet.specs.Promise.{Reads}
+use Rattle.sheet.specs.Promise.Reads.{wrong-size, refused as refusedRead}
+use Rattle.sheet.specs.Read.{at, ruleOf}
+use Rattle.sheet.specs.Said.{Said, SheetRule, SheetStatement, lineSaid, marksOf, nothing, outcome, outcomeFrom, outcomeOf, saying}
+use Rattle.sheet.specs.Said.Outcome.{accepted, refused}
+use Rattle.sheet.specs.Words.{Field, bodyOf, formOf, sectionOf}
+use Rattle.sheet.specs.laws.Accepted.{Accepted, concept-new, line-accepted, right-first}
+use Rattle.sheet.specs.laws.Judged.{Good, rule-good}
+use Rattle.sheet.specs.laws.Pass.{accepted-start, accepted-step, not-both, saidOf}
+use Rattle.why.specs.declared.Explained.{Explained}
+use Rattle.why.specs.declared.Pointed.{Pointed}
+use Rattle.why.specs.Finding.{BrokenSub, Points, SubOfNames, concept}
+use Rattle.why.specs.Finding.Points.{refused as refusedPoint, not-broken, found as foundPoint}
+use Rattle.why.specs.Promise.{Explains}
+use Rattle.why.specs.Promise.Explains.{refused as refusedCell, not-true, found}
+use Rattle.why.specs.Reason.{Reason}
+use Rattle.why.specs.laws.Few.{statements-few}
+use Rattle.why.specs.laws.Long.{split-total, total-most}
+use Rattle.saltreeve.specs.Why.{cutExplained, cutPointed, cutRefusal, explainedCode, pointedCode, refusalCode}
+
+-- ---- the lines of a reason
+
+-- a part is not longer than the list
+part-few : {A : Type 0} {ps xs : List A} → Part ps xs → length ps ≤ length xs
+part-few nonePart = omega arith
+part-few (keep p) = omega (arith, part-few p)
+part-few (leave p) = omega (arith, part-few p)
+
+-- a reason has at most 6,592 lines
+pub lines-few : (sheet : List ℕ) (x : Said) {n : Counts} {c : Cell} {lines : List SheetStatement} → outcome sheet ≡ accepted x → Reason n c (x .statements) lines → length lines ≤ 6592
+lines-few sheet x o r = omega (arith, part-few (r .part), statements-few sheet x o)
+
+-- ---- the number of a refusal
+
+-- one of two small numbers
+fault-small : (b : Bool) (k rest : ℕ) → k < 100 → rest < 100 → fault b k rest < 100
+fault-small true k rest h g = h
+fault-small false k rest h g = g
+
+-- the lower of two
+lower-small : (a b : ℕ) → a < 100 → b < 100 → lowerFault a b < 100
+unfolding lowerFault
+lower-small a b h g = go (eqb a 0) (eqb b 0)
+  where
+    go : (p q : Bool) → cond p b (cond q a (min a b)) < 100
+    go true q = g
+    go false true = h
+    go false false = omega arith
+
+-- of a name to be declared
+new-small : (room : ℕ) (names : List Field) (f : Field) → newFault room names f < 100
+unfolding newFault
+new-small room names f = fault-small (declared f names) _ _ (omega arith) (fault-small (leb room (length names)) _ _ (omega arith) (omega arith))
+
+-- of a name that is declared
+name-small : (names : List Field) (f : Field) → nameFault names f < 100
+unfolding nameFault
+name-small names f = fault-small (not (isName f)) _ _ (omega arith) (fault-small (not (declared f names)) _ _ (omega arith) (omega arith))
+
+-- of a field
+field-small : (n : Names) (d : Due) (f : Field) → fieldFault n d f < 100
+unfolding fieldFault
+field-small n due.NewConcept f = fault-small (not (isName f)) _ _ (omega arith) (fault-small (reserved f) _ _ (omega arith) (new-small conceptLimit (n .concepts) f))
+field-small n due.NewRole f = fault-small (not (isName f)) _ _ (omega arith) (new-small roleLimit (n .roles) f)
+field-small n due.NewItem f = fault-small (not (isName f)) _ _ (omega arith) (fault-small (dateShaped f) _ _ (omega arith) (new-small (itemLimit width) (n .items) f))
+field-small n due.Concept f = fault-small (reserved f) _ _ (omega arith) (name-small (n .concepts) f)
+field-small n due.Role f = name-small (n .roles) f
+field-small n due.Item f = name-small (n .items) f
+field-small n due.RoleUse f = name-small (n .roles) (plain f)
+field-small n due.AtLeast f = fault-small (not (isCount 1 8 f)) _ _ (omega arith) (omega arith)
+field-small n due.AtMost f = fault-small (not (isCount 0 7 f)) _ _ (omega arith) (omega arith)
+field-small n due.Expr f = fault-small (reserved f) _ _ (omega arith) (name-small (n .concepts) f)
+field-small n due.Nothing f = omega arith
+
+-- of fields
+faults-small : (n : Names) (ds : List Due) (fs : List Field) → fieldFaults n ds fs < 100
+unfolding fieldFaults
+faults-small n ds [] = omega arith
+faults-small n [] (f ∷ fs) = omega arith
+faults-small n (d ∷ ds) (f ∷ fs) = lower-small _ _ (field-small n d f) (faults-small n (next d f ds) fs)
+
+-- of the fields after the word of a line
+form-small : (n : Names) (m : Marks) (f : Form) (body : List Field) → formFault n m f body < 100
+unfolding formFault fieldsFault
+form-small n m f body =
+    fault-small (unknown (sectionOf f)) _ _ (omega arith)
+    (fault-small (ended m (sectionOf f)) _ _ (omega arith)
+    (fault-small (not (fits (dues (lineupOf f (length body))) body)) _ _ (omega arith)
+    (lower-small _ _ (faults-small n (dues (lineupOf f (length body))) body)
+    (fault-small (full m (sectionOf f)) _ _ (omega arith)
+    (fault-small (ltb nodeLimit (nodesIn (dues (lineupOf f (length body))) body)) _ _ (omega arith) (omega arith))))))
+
+-- of a line after the first
+line-small : (n : Names) (m : Marks) (l : List ℕ) → lineFault n m l < 100
+unfolding lineFault
+line-small n m l =
+    fault-small (none l) _ _ (omega arith)
+    (fault-small (ltb lineLimit (length l)) _ _ (omega arith)
+    (fault-small (not (every lineByte l)) _ _ (omega arith) (form-small n m (formOf (fields l)) (bodyOf (fields l)))))
+
+-- of line 1
+header-small : (l : List ℕ) → headerFault l < 100
+unfolding headerFault
+header-small l =
+    fault-small (ltb lineLimit (length l)) _ _ (omega arith)
+    (fault-small (not (every lineByte l)) _ _ (omega arith)
+    (fault-small (not (same l header)) _ _ (omega arith) (omega arith)))
+
+-- ---- the line of a refusal
+
+-- equal refusals have one line and one number
+refused-same : {n k i j : ℕ} {x y : Said} → refused n k x ≡ refused i j y → (n ≡ i) × (k ≡ j)
+refused-same e = (cc, cc)
+
+-- a line is refused by its own number
+from-small : (k : ℕ) (s x : Said) (ls : List (List ℕ)) {n j : ℕ} → outcomeFrom k s ls ≡ refused n j x → (n < k + length ls) × (j < 100)
+unfolding outcomeFrom
+from-small k s x [] e = absurd (not-both (sym e))
+from-small k s x (l ∷ ls) {n} {j} e = go (eqb (lineFault (s .names) (marksOf s) l) 0) e (λ h. from-small (k + 1) (lineSaid k s l) x ls h)
+  where
+    go : (t : Bool) → cond t (outcomeFrom (k + 1) (lineSaid k s l) ls) (refused k (lineFault (s .names) (marksOf s) l) s) ≡ refused n j x
+        → (outcomeFrom (k + 1) (lineSaid k s l) ls ≡ refused n j x → (n < k + 1 + length ls) × (j < 100)) → (n < k + suc (length ls)) × (j < 100)
+    go true h more = let z = more h in (omega (arith, z .0), z .1)
+    go false h more = let z = refused-same h in (omega (arith, z .0), omega (arith, z .1, line-small (s .names) (marksOf s) l))
+
+-- so is line 1
+of-small : (ls : List (List ℕ)) {n j : ℕ} {x : Said} → outcomeOf ls ≡ refused n j x → (n < 2 + length ls) × (j < 100)
+of-small [] e = let z = refused-same e in (omega (arith, z .0), omega (arith, z .1))
+of-small (l ∷ ls) {n} {j} {x} e = go (eqb (headerFault l) 0) e
+  where
+    go : (t : Bool) → cond t (outcomeFrom 2 nothing ls) (refused 1 (headerFault l) nothing) ≡ refused n j x → (n < 2 + suc (length ls)) × (j < 100)
+    go true h = let z = from-small 2 nothing x ls h in (omega (arith, z .0), z .1)
+    go false h = let z = refused-same h in (omega (arith, z .0), omega (arith, z .1, header-small l))
+
+-- a refusal has a line below a million, and a number below a hundred
+pub refused-small : (sheet : List ℕ) {n j : ℕ} {x : Said} → outcome sheet ≡ refused n j x → (n < 1000000) × (j < 100)
+unfolding outcome
+refused-small sheet {n} {j} {x} e = go (leb (length sheet) sheetLimit) refl e
+  where
+    go : (t : Bool) → leb (length sheet) sheetLimit ≡ t → cond t (outcomeOf (split 10 sheet)) (refused 0 9 nothing) ≡ refused n j x → (n < 1000000) × (j < 100)
+    go true q h = let z = of-small (split 10 sheet) h in (omega (arith, z .0, total-most (split 10 sheet), split-total 10 sheet, leb-true (length sheet) sheetLimit q), z .1)
+    go false q h = let z = refused-same h in (omega (arith, z .0), omega (arith, z .1))
+
+-- so it is with the store's own refusal
+pub reads-small : {sheet s t : List ℕ} {n j : ℕ} → Reads sheet s t (reading.Refused n j) → (n < 1000000) × (j < 100)
+reads-small {sheet} (wrong-size z e) = (omega arith, omega arith)
+reads-small {sheet} (refusedRead l o h) = refused-small sheet o
+
+-- ---- the concepts of a rule
+
+-- a rule whose numbers are below some counts, of 32 concepts at most
+record Fine (u : Rule) : Type 0 where
+  pub counts : Counts
+  pub few : counts .concepts ≤ conceptLimit
+  pub good : Good counts u
+
+-- all the rules are fine
+abbrev AllFine : List SheetRule → Type 0
+AllFine [] = Unit {0}
+AllFine (r ∷ rs) = Fine (r .rule) × AllFine rs
+
+-- one rule more
+fine-last : (rs : List SheetRule) (r : SheetRule) → AllFine rs → Fine (r .rule) → AllFine (rs ++ r ∷ [])
+fine-last [] r a f = (f, tt)
+fine-last (q ∷ rs) r a f = (a .0, fine-last rs r (a .1) f)
+
+-- each of them
+fine-at : (before : List SheetRule) (r : SheetRule) (after : List SheetRule) → AllFine (before ++ r ∷ after) → Fine (r .rule)
+fine-at [] r after a = a .0
+fine-at (q ∷ before) r after a = fine-at before r after (a .1)
+
+-- what the lines so far said: 32 concepts at most, and fine rules
+record Sound (s : Said) : Type 0 where
+  pub few : length (s .names .concepts) ≤ conceptLimit
+  pub rules : AllFine (s .rules)
+
+-- so it is after the fields of a line without a fault
+saying-sound : (k : ℕ) (s : Said) (f : Form) (fs : List Field) → Accepted (s .names) (marksOf s) f fs → Sound s → Sound (saying k s f fs)
+saying-sound k s form.Concept fs a h =
+    let z = concept-new (s .names) (at 0 fs) (right-first (s .names) due.NewConcept [] fs refl (a .right) .0) in
+    record { few = omega (arith, z .1, length-append (s .names .concepts) (at 0 fs ∷ [])); rules = h .rules }
+saying-sound k s form.Role fs a h = record { few = h .few; rules = h .rules }
+saying-sound k s form.Item fs a h = record { few = h .few; rules = h .rules }
+saying-sound k s (form.Statement w) fs a h = record { few = h .few; rules = h .rules }
+saying-sound k s (form.Rule w) fs a h =
+    record { few = h .few; rules = fine-last (s .rules) (record { line = k; rule = ruleOf (s .names) w fs }) (h .rules) (record { counts = countsOf (s .names); few = h .few; good = rule-good (s .names) w fs (a .right) (a .nodes) }) }
+saying-sound k s form.Bare fs a h = h
+saying-sound k s form.Unknown fs a h = h
+
+-- after such a line
+line-sound : (k : ℕ) (s : Said) (l : List ℕ) → lineFault (s .names) (marksOf s) l ≡ 0 → Sound s → Sound (lineSaid k s l)
+unfolding lineSaid
+line-sound k s l e h = go (none l) refl
+  where
+    go : (t : Bool) → none l ≡ t → Sound (cond t s (saying k s (formOf (fields l)) (bodyOf (fields l))))
+    go true q = h
+    go false q = saying-sound k s (formOf (fields l)) (bodyOf (fields l)) (line-accepted (s .names) (marksOf s) l q e .1) h
+
+-- and after all lines
+from-sound : (k : ℕ) (s x : Said) (ls : List (List ℕ)) → outcomeFrom k s ls ≡ accepted x → Sound s → Sound x
+unfolding outcomeFrom
+from-sound k s x [] e h = subst Sound (ap saidOf e) h
+from-sound k s x (l ∷ ls) e h = let z = accepted-step k s x l ls e in from-sound (k + 1) (lineSaid k s l) x ls (z .1) (line-sound k s l (z .0) h)
+
+-- so it is with an accepted sheet
+sheet-sound : (sheet : List ℕ) (x : Said) → outcome sheet ≡ accepted x → Sound x
+sheet-sound sheet x o = from-sound 2 nothing x _ (accepted-start sheet x o .1) (record { few = omega arith; rules = tt })
+
+-- a node that is a name has a number below the count
+name-within : (n : Counts) (f : ℕ → Expr) (v : Node) (d : ℕ) → NodeWithin n v → build f v ≡ name (concept d) → d < n .concepts
+name-within n f (node.Name c) d w e = let z : c .0 ≡ d = cc in omega (arith, w)
+name-within n f node.Top d w e = let z : _≡_ {A = ℕ} 0 1 = cc in absurd (omega arith)
+name-within n f (node.Not a) d w e = let z : _≡_ {A = ℕ} 0 1 = cc in absurd (omega arith)
+name-within n f (node.And a b) d w e = let z : _≡_ {A = ℕ} 0 1 = cc in absurd (omega arith)
+name-within n f (node.AtLeast k u a) d w e = let z : _≡_ {A = ℕ} 0 1 = cc in absurd (omega arith)
+name-within n f (node.SelfOf u) d w e = let z : _≡_ {A = ℕ} 0 1 = cc in absurd (omega arith)
+name-within n f (node.One a) d w e = let z : _≡_ {A = ℕ} 0 1 = cc in absurd (omega arith)
+
+-- the right concept of a fine rule `sub`
+sub-small : {u : Rule} {c d : ℕ} → Fine u → SubOfNames u c d → d < conceptLimit
+unfolding exprAt
+sub-small {u} {c} {d} f s =
+    let h : HeadFits (u .len) (u .head) = f .good .form .head in
+    let g = rw (s .head) at h in
+    omega (arith, f .few, name-within (f .counts) _ (nodeAt (u .nodes) (s .right)) d (f .good .within .nodes (s .right) (g .1)) (s .second))
+
+-- the concept of a finding is below 32
+pub concept-small : (sheet : List ℕ) {x : Said} {n : Counts} {t : List ℕ} {k a c d : ℕ} → outcome sheet ≡ accepted x → BrokenSub n x t k a c d → d < conceptLimit
+concept-small sheet {x} o b =
+    let z = sheet-sound sheet x o .rules in
+    let r = b .there in
+    sub-small (fine-at (r .before) (record { line = r .line; rule = b .rule }) (r .after) (subst AllFine (r .is) z)) (b .names)
+
+-- ---- nothing is cut
+
+-- of a refusal
+refusal-whole : (n j : ℕ) → (n < 1000000) × (j < 100) → cutRefusal n j ≡ refusalCode n j
+refusal-whole n j h = let z : 100 * (n % 1000000) + j % 100 ≡ 100 * n + j = omega (arith, h .0, h .1) in ap (λ (m : ℕ). negℤ (pos m)) z
+
+-- of a cell
+pub explained-whole : {sheet s t : List ℕ} {c : Cell} {before after : List ℕ} {r : Explained} → Explains sheet s t c before after r → cutExplained r ≡ explainedCode r
+explained-whole {sheet} (refusedCell {n = n} {k = k} a e) = refusal-whole n k (reads-small a)
+explained-whole {sheet} (not-true l o h g e) = refl
+explained-whole {sheet} (found {x = x} {lines = lines} l o h r e) = let z : length lines % 1000000 ≡ length lines = omega (arith, lines-few sheet x o r) in ap pos z
+
+-- of a finding
+pub pointed-whole : {sheet s t : List ℕ} {k a : ℕ} {before after : List ℕ} {r : Pointed} → Points sheet s t k a before after r → cutPointed r ≡ pointedCode r
+pointed-whole {sheet} (refusedPoint {n = n} {j = j} a e) = refusal-whole n j (reads-small a)
+pointed-whole {sheet} (not-broken l o h g e) = refl
+pointed-whole {sheet} (foundPoint {x = x} {d = d} {lines = lines} l o h b r e) =
+    let z : 1000000 * (d % 1024) + length lines % 1000000 ≡ 1000000 * d + length lines = omega (arith, lines-few sheet x o r, concept-small sheet o b) in
+    ap pos z
