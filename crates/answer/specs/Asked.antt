@@ -16,9 +16,9 @@ use Rattle.sheet.specs.Words.{Field}
 use Rattle.why.specs.declared.Sides.{Sides}
 use Rattle.why.specs.Finding.{BrokenSub}
 use Rattle.why.specs.Sides.{Breaking}
+use Rattle.report.specs.Lines.{lineOf}
 use Rattle.answer.specs.declared.CellAsked.{CellAsked}
 use Rattle.answer.specs.declared.FindingAsked.{FindingAsked}
-use Rattle.answer.specs.Promise.{ruleLine}
 use Rattle.answer.specs.Question.{AsksCell, AsksFinding}
 
 -- the cell that a line of this form states, if it is that of a statement
@@ -39,7 +39,7 @@ Asking false n q r = (c : Cell) → ¬ (AsksCell n q c)
 -- the rule k of the sheet x is in the line whose number the field f says, and the item a breaks it in the store s; it has concept names on both sides
 pub record BrokenIn (n : Counts) (x : Said) (s : List ℕ) (f : Field) (a c d : ℕ) : Type 0 where
   pub rule : ℕ
-  pub line : same f (decimal (ruleLine x rule)) ≡ true
+  pub line : same f (decimal (lineOf x rule)) ≡ true
   pub broken : BrokenSub n x s rule a c d
 
 -- the sides of the rule k, if `on` and if the item a breaks it
@@ -55,7 +55,7 @@ SidesIf false n x s f a r = (c d : ℕ) → ¬ (BrokenIn n x s f a c d)
 -- the question q is the line of a finding of such a rule
 pub record FindingIn (n : Counts) (x : Said) (s q : List ℕ) (a c d : ℕ) : Type 0 where
   pub rule : ℕ
-  pub asks : AsksFinding (x .names) q (ruleLine x rule) a
+  pub asks : AsksFinding (x .names) q (lineOf x rule) a
   pub broken : BrokenSub n x s rule a c d
 
 -- the finding that a question asks for, or it asks for none

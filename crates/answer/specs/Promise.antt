@@ -1,15 +1,16 @@
 -- What is printed for a question about a sheet, for every sheet and every question.
 use mathlib.Core.Path.{_≡_}
 use mathlib.Core.Bool.{true, false}
-use mathlib.Core.List.{List, [], _++_, map}
+use mathlib.Core.List.{List, [], _++_}
 use Prim.Native.Nat.{ℕ, _≤_, _<_}
-use lib.ListN.{length, getD, drop}
+use lib.ListN.{length, drop}
 use Rattle.closure.specs.Cell.{Cell}
 use Rattle.closure.specs.Cell.Cell.{In}
 use Rattle.closure.specs.Layout.{Holds, width}
+use Rattle.report.specs.Lines.{lineOf}
 use Rattle.sheet.specs.Names.{countsOf}
 use Rattle.sheet.specs.Promise.{Held, refusedText}
-use Rattle.sheet.specs.Said.{Said, SheetRule, SheetStatement, outcome}
+use Rattle.sheet.specs.Said.{Said, SheetStatement, outcome}
 use Rattle.sheet.specs.Said.Outcome.{accepted, refused as refusedAt}
 use Rattle.why.specs.Finding.{BrokenSub, notBroken}
 use Rattle.why.specs.Listed.{linesOf}
@@ -17,10 +18,6 @@ use Rattle.why.specs.Promise.{notTrue}
 use Rattle.why.specs.Reason.{Reason}
 use Rattle.answer.specs.Question.{AsksCell, AsksFinding, aboutFinding, bare}
 use Rattle.answer.specs.Text.{absentText, reasonText}
-
--- the line number of the rule with the number k
-abbrev pub ruleLine : Said → ℕ → ℕ
-ruleLine x k = getD (map (λ (r : SheetRule). r .line) (x .rules)) k 0
 
 -- The text for a question. First the sheet's own refusals, as `check` prints them.
 -- Of a statement: 24 if its cell is not true or it asks for none; otherwise the lines of a reason for the cell, and their total.
@@ -32,8 +29,8 @@ pub data Answers (sheet question : List ℕ) : List ℕ → Type 0 where
   found : {x : Said} {c : Cell} {ls : List SheetStatement} → outcome sheet ≡ accepted x → aboutFinding (bare question) ≡ false → AsksCell (x .names) (bare question) c
       → Reason (countsOf (x .names)) c (x .statements) ls → Answers sheet question (reasonText sheet (linesOf ls) [])
   not-broken : {x : Said} {t : List ℕ} → outcome sheet ≡ accepted x → Held x t → aboutFinding (bare question) ≡ true
-      → ((k a c d : ℕ) → AsksFinding (x .names) (bare question) (ruleLine x k) a → ¬ (BrokenSub (countsOf (x .names)) x t k a c d)) → Answers sheet question (refusedText 0 notBroken)
-  broken : {x : Said} {t : List ℕ} {k a c d : ℕ} {ls : List SheetStatement} → outcome sheet ≡ accepted x → Held x t → AsksFinding (x .names) (bare question) (ruleLine x k) a
+      → ((k a c d : ℕ) → AsksFinding (x .names) (bare question) (lineOf x k) a → ¬ (BrokenSub (countsOf (x .names)) x t k a c d)) → Answers sheet question (refusedText 0 notBroken)
+  broken : {x : Said} {t : List ℕ} {k a c d : ℕ} {ls : List SheetStatement} → outcome sheet ≡ accepted x → Held x t → AsksFinding (x .names) (bare question) (lineOf x k) a
       → BrokenSub (countsOf (x .names)) x t k a c d → Reason (countsOf (x .names)) (In a c) (x .statements) ls
       → Answers sheet question (reasonText sheet (linesOf ls) (absentText (x .names) a d))
 

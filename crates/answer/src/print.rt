@@ -68,7 +68,7 @@ fn marked_if(on: bool, marks: &[u64; Lines::WORDS], n: usize) -> bool
     ensures { λ r. ⌜ r ≡ cond on (rowHasb (now (marks .entry)) n) false ⌝ }
 {
     if on {
-        return why::has(marks, n);
+        return reason::marks::has(marks, n);
     }
     false
 }

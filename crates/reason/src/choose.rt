@@ -66,7 +66,7 @@ fn join(marks: &mut [u64; Lines::WORDS], more: &[u64; Lines::WORDS], n: usize)
     ensures { λ _. ⌜ Joined (now (marks .entry)) (now (more .entry)) n (now (marks .exit)) ⌝ }
 {
     row::change::row_or(marks, 0, Lines::WORDS, more, true);
-    crate::seek::mark(marks, n);
+    crate::marks::mark(marks, n);
 }
 
 // Marks a reason for the fact g.

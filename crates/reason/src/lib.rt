@@ -2,6 +2,7 @@
 mod choose;
 pub mod code;
 mod facts;
+pub mod marks;
 mod reach;
 mod seek;
 

@@ -3,13 +3,10 @@ pub mod finding;
 pub mod gather;
 pub mod stating;
 
-ghost use mathlib.Core.Path.{_≡_};
-ghost use Prim.Native.Nat.{_*_, _≤_, _<_};
-ghost use Rattle.row.specs.Row.{rowHasb};
+ghost use Prim.Native.Nat.{_≤_};
 ghost use Rattle.closure.specs.Cell.{cellOf};
 ghost use Rattle.sheet.specs.Pass.{Accepts};
 ghost use Rattle.sheet.specs.Table.{Roomy};
-ghost use Rattle.reason.specs.Picked.{markWords};
 ghost use Rattle.why.specs.Asked.{Asked};
 ghost use Rattle.why.specs.Promise.{Explains};
 ghost use Rattle.why.specs.Writing.{Answered, Lists, PutIf};
@@ -56,15 +53,6 @@ pub struct Sides {
     pub right: usize,
 }
 
-// Whether the statement at the place n is marked.
-pub fn has(marks: &[u64; Lines::WORDS], n: usize) -> bool
-    requires { ⌜ n < 64 * markWords ⌝ }
-    ensures { λ r. ⌜ r ≡ rowHasb (now (marks .entry)) n ⌝ }
-{
-    let h = n / 64;
-    row::bit::has_bit(marks[h], (n % 64) as u64)
-}
-
 // Puts a line's number into the list at the place i, if `on` and if the list reaches so far; the place after it.
 fn put(list: &mut [u32], i: usize, line: usize, on: bool) -> usize
     requires { ⌜ (i ≤ 65536) × (line ≤ 65536) ⌝ }
@@ -89,7 +77,7 @@ fn write(sheet: &[u8], t: Table, marks: &[u64; Lines::WORDS], list: &mut [u32]) 
     let mut n = 0;
     let mut total = 0;
     while q.found {
-        total = put(list, total, q.line, has(marks, n));
+        total = put(list, total, q.line, reason::marks::has(marks, n));
         n += 1;
         q = stating::next(sheet, t, q.past, q.line + 1);
     }

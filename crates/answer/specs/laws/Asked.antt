@@ -30,10 +30,10 @@ use Rattle.sheet.specs.laws.Count.{Turn, turn-rules}
 use Rattle.why.specs.declared.Sides.{Sides}
 use Rattle.why.specs.Finding.{BrokenSub}
 use Rattle.why.specs.Sides.{BrokenIf}
+use Rattle.report.specs.Lines.{lineOf}
 use Rattle.answer.specs.declared.CellAsked.{CellAsked}
 use Rattle.answer.specs.declared.FindingAsked.{FindingAsked}
 use Rattle.answer.specs.Asked.{Asking, BreakingIf, BrokenIn, FindingIf, FindingIn, FormAsked, SidesIf}
-use Rattle.answer.specs.Promise.{ruleLine}
 use Rattle.answer.specs.Question.{aboutFinding, amongStatements, bare}
 
 -- a line with nothing wrong with it asks for the cell that it states, if it is a statement
@@ -146,7 +146,7 @@ module _ (n : Counts) (x : Said) (s q : List ℕ) where
         let w = second-is (z .asks .is) in
         record {
           rule = z .rule;
-          line = ap (λ (h : Field). same h (decimal (ruleLine x (z .rule)))) (w .0) ∙ same-all (decimal (ruleLine x (z .rule))) _ refl (λ i h. refl);
+          line = ap (λ (h : Field). same h (decimal (lineOf x (z .rule)))) (w .0) ∙ same-all (decimal (lineOf x (z .rule))) _ refl (λ i h. refl);
           broken = subst (λ (i : ℕ). BrokenSub n x s (z .rule) i c d) e (z .broken);
         }
 
@@ -165,10 +165,10 @@ module _ (n : Counts) (x : Said) (s q : List ℕ) where
 
 -- none of the first m rules is in the line that f says and broken by the item a
 pub record NoneYet (n : Counts) (x : Said) (s : List ℕ) (f : Field) (a m : ℕ) : Type 0 where
-  pub none : (k c d : ℕ) → k < m → same f (decimal (ruleLine x k)) ≡ true → ¬ (BrokenSub n x s k a c d)
+  pub none : (k c d : ℕ) → k < m → same f (decimal (lineOf x k)) ≡ true → ¬ (BrokenSub n x s k a c d)
 
 -- the line of the rule after those done
-rule-line : (x : Said) (done rest : List SheetRule) (l : SheetRule) (k : ℕ) → x .rules ≡ done ++ l ∷ rest → k ≡ length done → ruleLine x k ≡ l .line
+rule-line : (x : Said) (done rest : List SheetRule) (l : SheetRule) (k : ℕ) → x .rules ≡ done ++ l ∷ rest → k ≡ length done → lineOf x k ≡ l .line
 rule-line x done rest l k e h = ap (λ (rs : List SheetRule). getD (map (λ (r : SheetRule). r .line) rs) k 0) e ∙ ap (λ (i : ℕ). getD (map (λ (r : SheetRule). r .line) (done ++ l ∷ rest)) i 0) h ∙ at-end done
   where
     at-end : (ls : List SheetRule) → getD (map (λ (r : SheetRule). r .line) (ls ++ l ∷ rest)) (length ls) 0 ≡ l .line
@@ -185,7 +185,7 @@ module _ (n : Counts) (x : Said) (s : List ℕ) (f : Field) (a : ℕ) where
       let t = w .broken .there in
       z .none (w .rule) c d (omega (arith, t .place, ap length (t .is), length-append (t .before) (record { line = t .line; rule = w .broken .rule } ∷ t .after))) (w .line) (w .broken)
 
-  module _ {sheet : List ℕ} {t : Table} {m line : ℕ} {on : Bool} {r : Sides} (is : ruleLine x m ≡ line) (said : on ≡ same f (decimal line)) (o : outcome sheet ≡ accepted x) (e : x .names ≡ namesOf sheet t)
+  module _ {sheet : List ℕ} {t : Table} {m line : ℕ} {on : Bool} {r : Sides} (is : lineOf x m ≡ line) (said : on ≡ same f (decimal line)) (o : outcome sheet ≡ accepted x) (e : x .names ≡ namesOf sheet t)
       (counts : n ≡ t .counts) (z : BreakingIf on sheet t s m a r) where
     broken-if : on ≡ true → BrokenIf (r .named) n x s m a r
     broken-if h = subst (λ (i : Counts). BrokenIf (r .named) i x s m a r) (sym counts) (z .breaking h x o e)
@@ -194,14 +194,14 @@ module _ (n : Counts) (x : Said) (s : List ℕ) (f : Field) (a : ℕ) where
     none-more : r .named ≡ false → NoneYet n x s f a m → NoneYet n x s f a (m + 1)
     none-more h w = record { none = none }
       where
-        none : (k c d : ℕ) → k < m + 1 → same f (decimal (ruleLine x k)) ≡ true → ¬ (BrokenSub n x s k a c d)
+        none : (k c d : ℕ) → k < m + 1 → same f (decimal (lineOf x k)) ≡ true → ¬ (BrokenSub n x s k a c d)
         none k c d l b = by (decLt k m)
           where
             by : Dec (k < m) → ¬ (BrokenSub n x s k a c d)
             by (yes g) = w .none k c d g b
             by (no g) =
                 let i : k ≡ m = omega arith in
-                let y : on ≡ true = said ∙ ap (λ (j : ℕ). same f (decimal j)) (sym is ∙ ap (ruleLine x) (sym i)) ∙ b in
+                let y : on ≡ true = said ∙ ap (λ (j : ℕ). same f (decimal j)) (sym is ∙ ap (lineOf x) (sym i)) ∙ b in
                 subst (λ (j : ℕ). ¬ (BrokenSub n x s j a c d)) (sym i) (subst (λ (v : Bool). BrokenIf v n x s m a r) h (broken-if y) c d)
 
     -- a rule that is

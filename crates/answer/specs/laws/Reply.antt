@@ -36,11 +36,12 @@ use Rattle.why.specs.Reason.{FollowsFrom, Reason}
 use Rattle.why.specs.laws.Explained.{opens-counts}
 use Rattle.why.specs.laws.Few.{statements-few}
 use Rattle.why.specs.laws.Finding.{broken-in}
+use Rattle.report.specs.Lines.{lineOf}
 use Rattle.answer.specs.declared.Absent.{Absent}
 use Rattle.answer.specs.declared.CellAsked.{CellAsked}
 use Rattle.answer.specs.declared.FindingAsked.{FindingAsked}
 use Rattle.answer.specs.Asked.{Asking, FindingIf, FindingIn}
-use Rattle.answer.specs.Promise.{Fitted, Replies, ruleLine}
+use Rattle.answer.specs.Promise.{Fitted, Replies}
 use Rattle.answer.specs.Promise.Answers.{not-true, found, not-broken, broken, refused}
 use Rattle.answer.specs.Question.{AsksCell, AsksFinding, aboutFinding, bare}
 use Rattle.answer.specs.Text.{absentText, reasonText}
@@ -171,7 +172,7 @@ module _ {sheet : List ℕ} {t : Table} {s : List ℕ} (k : Known sheet t s) whe
             text = refusedText 0 25;
             answers = not-broken (k .ends) (k .held) (ap aboutFinding i ∙ about)
                 (λ j b c d h z. subst (λ (y : Bool). FindingIf y (countsOf (k .said .names)) (k .said) s q r) e here b c d
-                (record { rule = j; asks = subst (λ (l : List ℕ). AsksFinding (k .said .names) l (ruleLine (k .said) j) b) i h; broken = z }));
+                (record { rule = j; asks = subst (λ (l : List ℕ). AsksFinding (k .said .names) l (lineOf (k .said) j) b) i h; broken = z }));
             fitted = f;
           };
         }
@@ -191,7 +192,7 @@ module _ {sheet : List ℕ} {t : Table} {s : List ℕ} (k : Known sheet t s) whe
           record {
             reply = λ question i. record {
               text = reasonText sheet (linesOf (y .list)) (absentText (k .said .names) (r .item) (r .right));
-              answers = broken (k .ends) (k .held) (subst (λ (l : List ℕ). AsksFinding (k .said .names) l (ruleLine (k .said) (there .rule)) (r .item)) (sym i) (there .asks)) (there .broken)
+              answers = broken (k .ends) (k .held) (subst (λ (l : List ℕ). AsksFinding (k .said .names) l (lineOf (k .said) (there .rule)) (r .item)) (sym i) (there .asks)) (there .broken)
                   (subst (λ (n : Counts). Reason n (In (r .item) (r .left)) (k .said .statements) (y .list)) (sym (k .counts)) (y .reason));
               fitted = subst (λ (d : Absent). Fitted (reasonText sheet (linesOf (y .list)) (absentIf (k .said .names) d)) room exit m) is (y .fits);
             };

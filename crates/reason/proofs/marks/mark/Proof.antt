@@ -1,9 +1,9 @@
--- `reason::seek::mark` meets its contract. Assumes nothing.
+-- `reason::marks::mark` meets its contract. Assumes nothing.
 use native.Mathlib.Omega.{arith}
 use borrow.Author.Needs.{needs}
 use Rattle.row.specs.laws.Pick.{marked-set}
-use Rattle.reason.proofs.seek.mark.Statement.{statement}
-use Rattle.reason.proofs.seek.mark.Tie as tie
+use Rattle.reason.proofs.marks.mark.Statement.{statement}
+use Rattle.reason.proofs.marks.mark.Tie as tie
 
 one-bit-requires : tie.Need-one-bit-requires
 one-bit-requires c κs = search needs
