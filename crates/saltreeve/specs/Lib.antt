@@ -1,5 +1,6 @@
 -- What other languages get.
 pub mod Code
+pub mod Room
 pub mod Check
 pub mod Why
 pub mod laws

@@ -1,14 +1,13 @@
 -- What the host gets for a question: the text, or minus 8 where it is longer than the room; and reasons by number.
 use mathlib.Core.Path.{_≡_}
 use mathlib.Core.Bool.{true, false, cond}
-use mathlib.Core.List.{List, _++_}
-use Prim.Native.Nat.{ℕ, _+_, _*_, _%_, _≤_, _<_}
+use mathlib.Core.List.{List}
+use Prim.Native.Nat.{ℕ, _+_, _*_, _<_}
 use lib.Dec.{eqb}
 use lib.IntN.{ℤ, pos, negℤ}
-use lib.ListN.{length, drop}
 use Rattle.closure.specs.Cell.{Cell}
 use Rattle.closure.specs.Cell.Cell.{Same, Under, RoleUnder, In, Link}
-use Rattle.closure.specs.Layout.{roleLimit}
+use Rattle.closure.specs.Layout.{conceptLimit, roleLimit}
 use Rattle.why.specs.declared.Explained.{Explained}
 use Rattle.why.specs.declared.Explained.the-variants as explained
 use Rattle.why.specs.declared.Pointed.{Pointed}
@@ -16,11 +15,11 @@ use Rattle.why.specs.declared.Pointed.the-variants as pointed
 use Rattle.why.specs.Finding.{Points}
 use Rattle.why.specs.Promise.{Explains}
 use Rattle.answer.specs.Promise.{Answers}
+use Rattle.saltreeve.specs.Room.{InRoom}
 
--- the room that was lent becomes exit, and the answer is the number of bytes written; past them the room is untouched
-pub data Whys (sheet question room exit : List ℕ) : ℤ → Type 0 where
-  too-long : {text : List ℕ} → Answers sheet question text → length room < length text → exit ≡ room → Whys sheet question room exit (negℤ (pos 8))
-  written : {text : List ℕ} → Answers sheet question text → length text ≤ length room → exit ≡ text ++ drop (length text) room → Whys sheet question room exit (pos (length text))
+-- the room that was lent becomes exit
+abbrev pub Whys : List ℕ → List ℕ → List ℕ → List ℕ → ℤ → Type 0
+Whys sheet question room exit r = InRoom (Answers sheet question) room exit r
 
 -- the cell of a kind, by its numbers; any other kind is no cell: a link of a role that no sheet can have
 abbrev pub cellOfKind : ℕ → ℕ → ℕ → ℕ → Cell
@@ -32,7 +31,7 @@ cellOfKind kind a b c =
     (cond (eqb kind 4) (In a b)
     (cond (eqb kind 5) (Link c a b) (Link roleLimit a b))))))
 
--- a refusal as a signed number: 100 times its line, and its number. No number has three digits
+-- a refusal as a signed number: 100 times its line, and its number, which is below 100
 abbrev pub refusalCode : ℕ → ℕ → ℤ
 refusalCode line k = negℤ (pos (100 * line + k))
 
@@ -46,19 +45,15 @@ abbrev pub pointedCode : Pointed → ℤ
 pointedCode (pointed.Lines m d) = pos (1000000 * d .0 + m)
 pointedCode (pointed.Refused line k) = refusalCode line k
 
--- a refusal with its numbers cut, so that it fits a word; that of an answer nothing is cut: laws/Bounds (own use)
-abbrev pub cutRefusal : ℕ → ℕ → ℤ
-cutRefusal line k = refusalCode (line % 1000000) (k % 100)
-
--- an answer, cut (own use)
-abbrev pub cutExplained : Explained → ℤ
-cutExplained (explained.Lines m) = pos (m % 1000000)
-cutExplained (explained.Refused line k) = cutRefusal line k
+-- an answer whose parts can be told from one number, as those of every answer can: laws/Bounds (own use)
+abbrev pub SmallExplained : Explained → Type 0
+SmallExplained (explained.Lines m) = m < 1000000
+SmallExplained (explained.Refused line k) = (line < 1000000) × (k < 100)
 
 -- the same for a finding (own use)
-abbrev pub cutPointed : Pointed → ℤ
-cutPointed (pointed.Lines m d) = pos (1000000 * (d .0 % 1024) + m % 1000000)
-cutPointed (pointed.Refused line k) = cutRefusal line k
+abbrev pub SmallPointed : Pointed → Type 0
+SmallPointed (pointed.Lines m d) = (m < 1000000) × (d .0 < conceptLimit)
+SmallPointed (pointed.Refused line k) = (line < 1000000) × (k < 100)
 
 -- asking why a cell is true gives r
 pub record ExplainCode (sheet s t : List ℕ) (c : Cell) (before after : List ℕ) (r : ℤ) : Type 0 where

@@ -1,7 +1,8 @@
 // Why a cell is true or an item a finding, under C names.
 ghost use mathlib.Core.Path.{_≡_};
+ghost use Prim.Native.Nat.{_<_};
 ghost use Rattle.closure.specs.Cell.{cellOf};
-ghost use Rattle.saltreeve.specs.Why.{ExplainCode, PointCode, Whys, cellOfKind, cutExplained, cutPointed, cutRefusal};
+ghost use Rattle.saltreeve.specs.Why.{ExplainCode, PointCode, Whys, SmallExplained, SmallPointed, cellOfKind, explainedCode, pointedCode, refusalCode};
 use closure::Concept;
 use closure::Item;
 use closure::Role;
@@ -39,27 +40,30 @@ fn cell(kind: usize, a: usize, b: usize, c: usize) -> Statement
 
 // A refusal as a signed number.
 fn refusal(line: usize, k: usize) -> i64
-    ensures { λ r. ⌜ r ≡ cutRefusal line k ⌝ }
+    requires { ⌜ (line < 1000000) × (k < 100) ⌝ }
+    ensures { λ r. ⌜ r ≡ refusalCode line k ⌝ }
 {
-    -((100 * (line % 1000000) + k % 100) as i64)
+    -((100 * line + k) as i64)
 }
 
 // An answer as a signed number: the lines, or a refusal.
 fn explained(r: Explained) -> i64
-    ensures { λ s. ⌜ s ≡ cutExplained r ⌝ }
+    requires { ⌜ SmallExplained r ⌝ }
+    ensures { λ s. ⌜ s ≡ explainedCode r ⌝ }
 {
     match r {
-        Explained::Lines(m) => (m % 1000000) as i64,
+        Explained::Lines(m) => m as i64,
         Explained::Refused(line, k) => refusal(line, k),
     }
 }
 
 // The same for a finding, with the concept that is absent.
 fn pointed(r: Pointed) -> i64
-    ensures { λ s. ⌜ s ≡ cutPointed r ⌝ }
+    requires { ⌜ SmallPointed r ⌝ }
+    ensures { λ s. ⌜ s ≡ pointedCode r ⌝ }
 {
     match r {
-        Pointed::Lines(m, d) => (1000000 * (d.0 % 1024) + m % 1000000) as i64,
+        Pointed::Lines(m, d) => (1000000 * d.0 + m) as i64,
         Pointed::Refused(line, k) => refusal(line, k),
     }
 }

@@ -1,12 +1,11 @@
--- No number of an answer is cut: lines, numbers of refusal and concepts are small. Assumes nothing.
+-- Lines, numbers of refusal and concepts of an answer are small, so that one number tells them. Assumes nothing.
 use mathlib.Core.Path.{_≡_, refl, sym, ap, subst}
 use mathlib.Core.Bool.{Bool, true, false, cond, not}
 use mathlib.Core.List.{List, [], _∷_, _++_}
-use Prim.Native.Nat.{ℕ, suc, _+_, _*_, _%_, _≤_, _<_, min}
+use Prim.Native.Nat.{ℕ, suc, _+_, _≤_, _<_, min}
 use native.Mathlib.Omega.{arith}
 use borrow.Author.Tests.{leb-true}
 use lib.Dec.{eqb, leb, ltb}
-use lib.IntN.{pos, negℤ}
 use lib.ListN.{length, length-append}
 use Rattle.text.specs.Bytes.{every, same}
 use Rattle.text.specs.Date.{dateShaped}
@@ -50,7 +49,7 @@ use Rattle.why.specs.Promise.Explains.{refused as refusedCell, not-true, found}
 use Rattle.why.specs.Reason.{Reason}
 use Rattle.why.specs.laws.Few.{statements-few}
 use Rattle.why.specs.laws.Long.{split-total, total-most}
-use Rattle.saltreeve.specs.Why.{cutExplained, cutPointed, cutRefusal, explainedCode, pointedCode, refusalCode}
+use Rattle.saltreeve.specs.Why.{SmallExplained, SmallPointed}
 
 -- ---- the lines of a reason
 
@@ -265,22 +264,16 @@ concept-small sheet {x} o b =
     let r = b .there in
     sub-small (fine-at (r .before) (record { line = r .line; rule = b .rule }) (r .after) (subst AllFine (r .is) z)) (b .names)
 
--- ---- nothing is cut
+-- ---- the parts of an answer can be told from its number
 
--- of a refusal
-refusal-whole : (n j : ℕ) → (n < 1000000) × (j < 100) → cutRefusal n j ≡ refusalCode n j
-refusal-whole n j h = let z : 100 * (n % 1000000) + j % 100 ≡ 100 * n + j = omega (arith, h .0, h .1) in ap (λ (m : ℕ). negℤ (pos m)) z
+-- for a cell
+pub explained-small : {sheet s t : List ℕ} {c : Cell} {before after : List ℕ} {r : Explained} → Explains sheet s t c before after r → SmallExplained r
+explained-small {sheet} (refusedCell a e) = reads-small a
+explained-small {sheet} (not-true l o h g e) = (omega arith, omega arith)
+explained-small {sheet} (found {x = x} l o h r e) = omega (arith, lines-few sheet x o r)
 
--- of a cell
-pub explained-whole : {sheet s t : List ℕ} {c : Cell} {before after : List ℕ} {r : Explained} → Explains sheet s t c before after r → cutExplained r ≡ explainedCode r
-explained-whole {sheet} (refusedCell {n = n} {k = k} a e) = refusal-whole n k (reads-small a)
-explained-whole {sheet} (not-true l o h g e) = refl
-explained-whole {sheet} (found {x = x} {lines = lines} l o h r e) = let z : length lines % 1000000 ≡ length lines = omega (arith, lines-few sheet x o r) in ap pos z
-
--- of a finding
-pub pointed-whole : {sheet s t : List ℕ} {k a : ℕ} {before after : List ℕ} {r : Pointed} → Points sheet s t k a before after r → cutPointed r ≡ pointedCode r
-pointed-whole {sheet} (refusedPoint {n = n} {j = j} a e) = refusal-whole n j (reads-small a)
-pointed-whole {sheet} (not-broken l o h g e) = refl
-pointed-whole {sheet} (foundPoint {x = x} {d = d} {lines = lines} l o h b r e) =
-    let z : 1000000 * (d % 1024) + length lines % 1000000 ≡ 1000000 * d + length lines = omega (arith, lines-few sheet x o r, concept-small sheet o b) in
-    ap pos z
+-- for a finding
+pub pointed-small : {sheet s t : List ℕ} {k a : ℕ} {before after : List ℕ} {r : Pointed} → Points sheet s t k a before after r → SmallPointed r
+pointed-small {sheet} (refusedPoint a e) = reads-small a
+pointed-small {sheet} (not-broken l o h g e) = (omega arith, omega arith)
+pointed-small {sheet} (foundPoint {x = x} l o h b r e) = (omega (arith, lines-few sheet x o r), concept-small sheet o b)

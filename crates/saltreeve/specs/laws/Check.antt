@@ -10,7 +10,7 @@ use Rattle.text.specs.laws.Text.{wrote-text, wrote-whole}
 use Rattle.sheet.specs.laws.Unique.{prints-unique}
 use Rattle.report.specs.Lines.{Pages}
 use Rattle.saltreeve.specs.Check.{Checks}
-use Rattle.saltreeve.specs.Check.Checks.{too-long, written}
+use Rattle.saltreeve.specs.Room.InRoom.{too-long, written}
 
 module _ {sheet own page : List ℕ} {n : ℕ} (w : Pages sheet own page n) where
   pub check-long : {room : List ℕ} → length room < n → Checks sheet room room (negℤ (pos 8))

@@ -11,22 +11,22 @@ enum-known-r : tie.Need-enum-known-r
 enum-known-r c = search needs
 
 mul-result : tie.Need-mul-result
-mul-result c = search needs
+mul-result c = let h = rw (c .before .before .r .given .1) at (c .before .before .before .before .pre) in omega (arith, h .1)
 
 add-result : tie.Need-add-result
-add-result c = search needs
+add-result c = let h = rw (c .before .before .r .given .1) at (c .before .before .before .before .pre) in omega (arith, h .0, h .1)
 
 cast-result : tie.Need-cast-result
-cast-result c = search needs
+cast-result c = let h = rw (c .before .before .r .given .1) at (c .before .before .before .before .pre) in record { sfits = omega (arith, h .0, h .1) }
 
 enum-known-r-2 : tie.Need-enum-known-r-2
 enum-known-r-2 c = search needs
 
 refusal-requires : tie.Need-refusal-requires
-refusal-requires c κs = search needs
+refusal-requires c κs = rw (c .before .r2 .given .1) at (c .before .before .before .pre)
 
 returns : tie.Need-returns
-returns c = rw (c .before .before .r .given .1) (toZ-pos w64 _ (omega arith))
+returns c = let h = rw (c .before .before .r .given .1) at (c .before .before .before .before .pre) in rw (c .before .before .r .given .1) (toZ-pos w64 _ (omega (arith, h .0, h .1)))
 
 returns-2 : tie.Need-returns-2
 returns-2 c = rw (c .before .before .r2 .given .1) (toZ-ofZ w64 (c .refusal .result) (record { sfits = omega (arith, (c .refusal .ok)) }) ∙ (c .refusal .ensures))
