@@ -10,9 +10,9 @@ use Rattle.closure.specs.Cell.Cell.{Same, Under, RoleUnder, In, Link}
 use Rattle.closure.specs.Layout.{conceptLimit, roleLimit}
 use Rattle.why.specs.declared.Explained.{Explained}
 use Rattle.why.specs.declared.Explained.the-variants as explained
-use Rattle.why.specs.declared.Pointed.{Pointed}
-use Rattle.why.specs.declared.Pointed.the-variants as pointed
-use Rattle.why.specs.Finding.{Points}
+use Rattle.why.specs.declared.FindingExplained.{FindingExplained}
+use Rattle.why.specs.declared.FindingExplained.the-variants as finding
+use Rattle.why.specs.Finding.{ExplainsFinding}
 use Rattle.why.specs.Promise.{Explains}
 use Rattle.answer.specs.Promise.{Answers}
 use Rattle.saltreeve.specs.Room.{InRoom}
@@ -41,9 +41,9 @@ explainedCode (explained.Lines m) = pos m
 explainedCode (explained.Refused line k) = refusalCode line k
 
 -- a million times the concept that is absent, and the number of lines, which is below a million; or a refusal
-abbrev pub pointedCode : Pointed → ℤ
-pointedCode (pointed.Lines m d) = pos (1000000 * d .0 + m)
-pointedCode (pointed.Refused line k) = refusalCode line k
+abbrev pub findingCode : FindingExplained → ℤ
+findingCode (finding.Lines m d) = pos (1000000 * d .0 + m)
+findingCode (finding.Refused line k) = refusalCode line k
 
 -- an answer whose parts can be told from one number, as those of every answer can: laws/Bounds (own use)
 abbrev pub SmallExplained : Explained → Type 0
@@ -51,9 +51,9 @@ SmallExplained (explained.Lines m) = m < 1000000
 SmallExplained (explained.Refused line k) = (line < 1000000) × (k < 100)
 
 -- the same for a finding (own use)
-abbrev pub SmallPointed : Pointed → Type 0
-SmallPointed (pointed.Lines m d) = (m < 1000000) × (d .0 < conceptLimit)
-SmallPointed (pointed.Refused line k) = (line < 1000000) × (k < 100)
+abbrev pub SmallFinding : FindingExplained → Type 0
+SmallFinding (finding.Lines m d) = (m < 1000000) × (d .0 < conceptLimit)
+SmallFinding (finding.Refused line k) = (line < 1000000) × (k < 100)
 
 -- asking why a cell is true gives r
 pub record ExplainCode (sheet s t : List ℕ) (c : Cell) (before after : List ℕ) (r : ℤ) : Type 0 where
@@ -62,7 +62,7 @@ pub record ExplainCode (sheet s t : List ℕ) (c : Cell) (before after : List �
   pub code : r ≡ explainedCode answer
 
 -- asking why the item a is a finding of the rule k gives r
-pub record PointCode (sheet s t : List ℕ) (k a : ℕ) (before after : List ℕ) (r : ℤ) : Type 0 where
-  pub answer : Pointed
-  pub points : Points sheet s t k a before after answer
-  pub code : r ≡ pointedCode answer
+pub record FindingCode (sheet s t : List ℕ) (k a : ℕ) (before after : List ℕ) (r : ℤ) : Type 0 where
+  pub answer : FindingExplained
+  pub explains : ExplainsFinding sheet s t k a before after answer
+  pub code : r ≡ findingCode answer

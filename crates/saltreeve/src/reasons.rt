@@ -2,14 +2,14 @@
 ghost use mathlib.Core.Path.{_≡_};
 ghost use Prim.Native.Nat.{_<_};
 ghost use Rattle.closure.specs.Cell.{cellOf};
-ghost use Rattle.saltreeve.specs.Why.{ExplainCode, PointCode, Whys, SmallExplained, SmallPointed, cellOfKind, explainedCode, pointedCode, refusalCode};
+ghost use Rattle.saltreeve.specs.Why.{ExplainCode, FindingCode, Whys, SmallExplained, SmallFinding, cellOfKind, explainedCode, findingCode, refusalCode};
 use closure::Concept;
 use closure::Item;
 use closure::Role;
 use closure::Statement;
 use closure::Store;
 use why::Explained;
-use why::Pointed;
+use why::FindingExplained;
 
 // Answers a question about a sheet: writes the text to the lent room, or nothing if it is longer than the room.
 #[no_mangle]
@@ -58,13 +58,13 @@ fn explained(r: Explained) -> i64
 }
 
 // The same for a finding, with the concept that is absent.
-fn pointed(r: Pointed) -> i64
-    requires { ⌜ SmallPointed r ⌝ }
-    ensures { λ s. ⌜ s ≡ pointedCode r ⌝ }
+fn finding(r: FindingExplained) -> i64
+    requires { ⌜ SmallFinding r ⌝ }
+    ensures { λ s. ⌜ s ≡ findingCode r ⌝ }
 {
     match r {
-        Pointed::Lines(m, d) => (1000000 * d.0 + m) as i64,
-        Pointed::Refused(line, k) => refusal(line, k),
+        FindingExplained::Lines(m, d) => (1000000 * d.0 + m) as i64,
+        FindingExplained::Refused(line, k) => refusal(line, k),
     }
 }
 
@@ -93,7 +93,7 @@ pub extern "C" fn saltreeve_explain_finding(
     item: usize,
     list: &mut [u32],
 ) -> i64
-    ensures { λ r. ⌜ PointCode (now (sheet .entry)) (now (words .entry)) (now (words .exit)) rule item (now (list .entry)) (now (list .exit)) r ⌝ }
+    ensures { λ r. ⌜ FindingCode (now (sheet .entry)) (now (words .entry)) (now (words .exit)) rule item (now (list .entry)) (now (list .exit)) r ⌝ }
 {
-    pointed(why::finding::explain(sheet, words, rule, Item(item), list))
+    finding(why::finding::explain(sheet, words, rule, Item(item), list))
 }

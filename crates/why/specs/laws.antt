@@ -8,5 +8,5 @@ pub mod Listed
 pub mod Rising
 pub mod Explained
 pub mod Finding
-pub mod Pointed
+pub mod ExplainedFinding
 pub mod Settled

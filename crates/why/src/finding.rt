@@ -4,10 +4,10 @@ ghost use mathlib.Core.Bool.{false};
 ghost use Rattle.sheet.specs.Pass.{Accepts, Judges};
 ghost use Rattle.sheet.specs.Table.{Roomy};
 ghost use Rattle.why.specs.Asked.{Of};
-ghost use Rattle.why.specs.Finding.{Points};
+ghost use Rattle.why.specs.Finding.{ExplainsFinding};
 ghost use Rattle.why.specs.Sides.{Breaking, NodeIs, RuleFound, SidesAre};
+use crate::FindingExplained;
 use crate::NodeName;
-use crate::Pointed;
 use crate::Sides;
 use closure::Concept;
 use closure::Item;
@@ -145,23 +145,29 @@ pub fn broken(sheet: &[u8], t: Table, words: &[u64], k: usize, a: usize) -> Side
 
 // Reads a sheet into the lent store, and lists statement lines from which it follows that the item a is in the left concept of the rule with the number k, and from no part of them with a line
 // taken out: the first ones as far as the list reaches; says how many they are in all, and the right concept, in which the item is not; or why not.
-pub fn explain(sheet: &[u8], words: &mut [u64], k: usize, a: Item, room: &mut [u32]) -> Pointed
-    ensures { λ r. ⌜ Points (now (sheet .entry)) (now (words .entry)) (now (words .exit)) k (a .0) (now (room .entry)) (now (room .exit)) r ⌝ }
+pub fn explain(
+    sheet: &[u8],
+    words: &mut [u64],
+    k: usize,
+    a: Item,
+    room: &mut [u32],
+) -> FindingExplained
+    ensures { λ r. ⌜ ExplainsFinding (now (sheet .entry)) (now (words .entry)) (now (words .exit)) k (a .0) (now (room .entry)) (now (room .exit)) r ⌝ }
 {
     if words.len() != Store::WORDS {
-        return Pointed::Refused(0, 1);
+        return FindingExplained::Refused(0, 1);
     }
     let e = sheet::sheets::fill(sheet, words);
     if e.why != 0 {
-        return Pointed::Refused(e.line, e.why);
+        return FindingExplained::Refused(e.line, e.why);
     }
     let kept = e.kept;
     let t = kept.table;
     let s = broken(sheet, t, words, k, a.0);
     if !s.named {
-        return Pointed::Refused(0, 25);
+        return FindingExplained::Refused(0, 25);
     }
     let left = Statement::In(a, Concept(s.left));
     let total = crate::list(sheet, t, left, room);
-    Pointed::Lines(total, Concept(s.right))
+    FindingExplained::Lines(total, Concept(s.right))
 }

@@ -33,7 +33,7 @@ pub enum Explained {
 }
 
 // What asking why an item is a finding gives.
-pub enum Pointed {
+pub enum FindingExplained {
     // How many lines there are in all, and the concept in which the item is not.
     Lines(usize, Concept),
     // The line and the number of refusal; line 0 is the whole sheet, and the line of 25.

@@ -41,15 +41,15 @@ use Rattle.sheet.specs.laws.Accepted.{Accepted, concept-new, line-accepted, rig
 use Rattle.sheet.specs.laws.Judged.{Good, rule-good}
 use Rattle.sheet.specs.laws.Pass.{accepted-start, accepted-step, not-both, saidOf}
 use Rattle.why.specs.declared.Explained.{Explained}
-use Rattle.why.specs.declared.Pointed.{Pointed}
-use Rattle.why.specs.Finding.{BrokenSub, Points, SubOfNames, concept}
-use Rattle.why.specs.Finding.Points.{refused as refusedPoint, not-broken, found as foundPoint}
+use Rattle.why.specs.declared.FindingExplained.{FindingExplained}
+use Rattle.why.specs.Finding.{BrokenSub, ExplainsFinding, SubOfNames, concept}
+use Rattle.why.specs.Finding.ExplainsFinding.{refused as refusedFinding, not-broken, found as foundFinding}
 use Rattle.why.specs.Promise.{Explains}
 use Rattle.why.specs.Promise.Explains.{refused as refusedCell, not-true, found}
 use Rattle.why.specs.Reason.{Reason}
 use Rattle.why.specs.laws.Few.{statements-few}
 use Rattle.why.specs.laws.Long.{split-total, total-most}
-use Rattle.saltreeve.specs.Why.{SmallExplained, SmallPointed}
+use Rattle.saltreeve.specs.Why.{SmallExplained, SmallFinding}
 
 -- ---- the lines of a reason
 
@@ -273,7 +273,7 @@ explained-small {sheet} (not-true l o h g e) = (omega arith, omega arith)
 explained-small {sheet} (found {x = x} l o h r e) = omega (arith, lines-few sheet x o r)
 
 -- for a finding
-pub pointed-small : {sheet s t : List ℕ} {k a : ℕ} {before after : List ℕ} {r : Pointed} → Points sheet s t k a before after r → SmallPointed r
-pointed-small {sheet} (refusedPoint a e) = reads-small a
-pointed-small {sheet} (not-broken l o h g e) = (omega arith, omega arith)
-pointed-small {sheet} (foundPoint {x = x} l o h b r e) = (omega (arith, lines-few sheet x o r), concept-small sheet o b)
+pub finding-small : {sheet s t : List ℕ} {k a : ℕ} {before after : List ℕ} {r : FindingExplained} → ExplainsFinding sheet s t k a before after r → SmallFinding r
+finding-small {sheet} (refusedFinding a e) = reads-small a
+finding-small {sheet} (not-broken l o h g e) = (omega arith, omega arith)
+finding-small {sheet} (foundFinding {x = x} l o h b r e) = (omega (arith, lines-few sheet x o r), concept-small sheet o b)

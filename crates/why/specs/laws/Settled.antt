@@ -20,10 +20,10 @@ use Rattle.closure.specs.declared.Counts.{Counts}
 use Rattle.rule.specs.declared.Rule.{Rule}
 use Rattle.why.specs.declared.Explained.{Explained}
 use Rattle.why.specs.declared.Explained.the-variants.{Lines, Refused}
-use Rattle.why.specs.declared.Pointed.{Pointed}
-use Rattle.why.specs.declared.Pointed.the-variants as pointed
-use Rattle.why.specs.Finding.{BrokenSub, Points, SubOfNames, concept}
-use Rattle.why.specs.Finding.Points.{refused as refusedPoint, not-broken, found as foundPoint}
+use Rattle.why.specs.declared.FindingExplained.{FindingExplained}
+use Rattle.why.specs.declared.FindingExplained.the-variants as finding
+use Rattle.why.specs.Finding.{BrokenSub, ExplainsFinding, SubOfNames, concept}
+use Rattle.why.specs.Finding.ExplainsFinding.{refused as refusedFinding, not-broken, found as foundFinding}
 use Rattle.why.specs.Promise.{Explains}
 use Rattle.why.specs.Promise.Explains.{refused, not-true, found}
 use Rattle.why.specs.Reason.{Reason}
@@ -80,11 +80,11 @@ explains-settled {sheet} wt wu (found {x = x} l o h g f) (found {x = y} m p i j 
 -- ---- a finding
 
 -- both are a reason with the same concept in which the item is not, or both are the same refusal
-abbrev pub SamePointed : Pointed → Pointed → Type 0
-SamePointed (pointed.Lines m c) (pointed.Lines j d) = c ≡ d
-SamePointed (pointed.Lines m c) (pointed.Refused n k) = ⊥
-SamePointed (pointed.Refused n k) (pointed.Lines m c) = ⊥
-SamePointed (pointed.Refused n k) (pointed.Refused i j) = (n ≡ i) × (k ≡ j)
+abbrev pub SameFinding : FindingExplained → FindingExplained → Type 0
+SameFinding (finding.Lines m c) (finding.Lines j d) = c ≡ d
+SameFinding (finding.Lines m c) (finding.Refused n k) = ⊥
+SameFinding (finding.Refused n k) (finding.Lines m c) = ⊥
+SameFinding (finding.Refused n k) (finding.Refused i j) = (n ≡ i) × (k ≡ j)
 
 -- a rule broken in one store of the sheet is broken in any other
 broken-there : (sheet : List ℕ) {t u : List ℕ} {k a c d : ℕ} (x y : Said) → t ≡ u → outcome sheet ≡ accepted x → outcome sheet ≡ accepted y → BrokenSub (countsOf (y .names)) y u k a c d
@@ -97,16 +97,16 @@ broken-there sheet {t} {k = k} {a = a} {c = c} {d = d} x y e o p b =
 broken-right-unique : {x : Said} {n : Counts} {t : List ℕ} {k a c d c′ d′ : ℕ} → BrokenSub n x t k a c d → BrokenSub n x t k a c′ d′ → concept d ≡ concept d′
 broken-right-unique {c′ = c′} {d′ = d′} b g = right-unique (b .names) (subst (λ (u : Rule). SubOfNames u c′ d′) (rule-unique (g .there) (b .there)) (g .names))
 
-pub points-settled : {sheet s t u : List ℕ} {k a : ℕ} {before after other : List ℕ} {r q : Pointed} → Words 64 t → Words 64 u → Points sheet s t k a before after r → Points sheet s u k a before other q
-    → (t ≡ u) × SamePointed r q
-points-settled {sheet} wt wu (refusedPoint a e) (refusedPoint b f) = let z = reads-unique wt wu a b in (z .0, reading-same (z .1))
-points-settled {sheet} wt wu (refusedPoint a e) (not-broken {x = y} l o h g f) = absurd (not-refused y l o a tt)
-points-settled {sheet} wt wu (refusedPoint a e) (foundPoint {x = y} l o h g r f) = absurd (not-refused y l o a tt)
-points-settled {sheet} wt wu (not-broken {x = x} l o h g f) (refusedPoint b e) = absurd (not-refused x l o b tt)
-points-settled {sheet} wt wu (not-broken {x = x} l o h g f) (not-broken {x = y} m p i j e) = (same-store sheet x y wt wu o p h i, (refl, refl))
-points-settled {sheet} wt wu (not-broken {x = x} l o h g f) (foundPoint {x = y} m p i j r e) = absurd (g _ _ (broken-there sheet x y (same-store sheet x y wt wu o p h i) o p j))
-points-settled {sheet} wt wu (foundPoint {x = x} l o h g r f) (refusedPoint b e) = absurd (not-refused x l o b tt)
-points-settled {sheet} wt wu (foundPoint {x = x} l o h g r f) (not-broken {x = y} m p i j e) = absurd (j _ _ (broken-there sheet y x (same-store sheet y x wu wt p o i h) p o g))
-points-settled {sheet} wt wu (foundPoint {x = x} l o h g r f) (foundPoint {x = y} m p i j w e) =
+pub finding-settled : {sheet s t u : List ℕ} {k a : ℕ} {before after other : List ℕ} {r q : FindingExplained} → Words 64 t → Words 64 u → ExplainsFinding sheet s t k a before after r → ExplainsFinding sheet s u k a before other q
+    → (t ≡ u) × SameFinding r q
+finding-settled {sheet} wt wu (refusedFinding a e) (refusedFinding b f) = let z = reads-unique wt wu a b in (z .0, reading-same (z .1))
+finding-settled {sheet} wt wu (refusedFinding a e) (not-broken {x = y} l o h g f) = absurd (not-refused y l o a tt)
+finding-settled {sheet} wt wu (refusedFinding a e) (foundFinding {x = y} l o h g r f) = absurd (not-refused y l o a tt)
+finding-settled {sheet} wt wu (not-broken {x = x} l o h g f) (refusedFinding b e) = absurd (not-refused x l o b tt)
+finding-settled {sheet} wt wu (not-broken {x = x} l o h g f) (not-broken {x = y} m p i j e) = (same-store sheet x y wt wu o p h i, (refl, refl))
+finding-settled {sheet} wt wu (not-broken {x = x} l o h g f) (foundFinding {x = y} m p i j r e) = absurd (g _ _ (broken-there sheet x y (same-store sheet x y wt wu o p h i) o p j))
+finding-settled {sheet} wt wu (foundFinding {x = x} l o h g r f) (refusedFinding b e) = absurd (not-refused x l o b tt)
+finding-settled {sheet} wt wu (foundFinding {x = x} l o h g r f) (not-broken {x = y} m p i j e) = absurd (j _ _ (broken-there sheet y x (same-store sheet y x wu wt p o i h) p o g))
+finding-settled {sheet} wt wu (foundFinding {x = x} l o h g r f) (foundFinding {x = y} m p i j w e) =
     let same = same-store sheet x y wt wu o p h i in
     (same, broken-right-unique g (broken-there sheet x y same o p j))

@@ -4,8 +4,8 @@ use borrow.Author.Tests.{not-false, not-true}
 use Rattle.sheet.specs.Promise.Reads.{wrong-size}
 use Rattle.sheet.specs.laws.Count.{opens-judges}
 use Rattle.sheet.specs.laws.Stands.{Places}
-use Rattle.why.specs.Finding.Points.{refused}
-use Rattle.why.specs.laws.Pointed.{points-asked, points-found, points-not, points-refused}
+use Rattle.why.specs.Finding.ExplainsFinding.{refused}
+use Rattle.why.specs.laws.ExplainedFinding.{finding-asked, finding-found, finding-not, finding-refused}
 use borrow.Author.Needs.{needs}
 use Rattle.why.proofs.finding.explain.Statement.{statement}
 use Rattle.why.proofs.finding.explain.Tie as tie
@@ -31,7 +31,7 @@ same-length : tie.Need-same-length
 same-length c = search needs
 
 returns-2 : tie.Need-returns-2
-returns-2 c = points-refused (c .before .before .before .before .fill .ensures) (c .before .before .before .before .before .before .if1 .left) (c .before .before .before .before .before .before .before .before .before .before .args .k) (c .before .before .before .before .before .before .before .before .before .before .args .a .0) (c .before .before .before .before .before .before .before .before .before .before .args .room .now) (c .if2 .taken)
+returns-2 c = finding-refused (c .before .before .before .before .fill .ensures) (c .before .before .before .before .before .before .if1 .left) (c .before .before .before .before .before .before .before .before .before .before .args .k) (c .before .before .before .before .before .before .before .before .before .before .args .a .0) (c .before .before .before .before .before .before .before .before .before .before .args .room .now) (c .if2 .taken)
 
 broken-requires : tie.Need-broken-requires
 broken-requires c κs = opens-judges (c .before .before .before .before .before .before .before .fill .ensures) (c .before .before .before .if2 .left) (places c)
@@ -40,10 +40,10 @@ same-length-2 : tie.Need-same-length-2
 same-length-2 c = search needs
 
 returns-3 : tie.Need-returns-3
-returns-3 c = points-not (c .before .before .before .before .before .before .before .before .before .before .fill .ensures) (c .before .before .before .before .before .before .before .before .before .before .before .before .if1 .left) (c .before .before .before .before .before .before .before .before .before .before .before .before .before .before .before .before .args .k) (c .before .before .before .before .before .before .before .before .before .before .before .before .before .before .before .before .args .a .0) (c .before .before .before .before .before .before .before .before .before .before .before .before .before .before .before .before .args .room .now) (c .before .before .before .before .before .before .if2 .left) (places (c .before .before .before)) (c .before .before .broken .result) (c .before .before .broken .ensures) (not-true _ (c .if3 .taken))
+returns-3 c = finding-not (c .before .before .before .before .before .before .before .before .before .before .fill .ensures) (c .before .before .before .before .before .before .before .before .before .before .before .before .if1 .left) (c .before .before .before .before .before .before .before .before .before .before .before .before .before .before .before .before .args .k) (c .before .before .before .before .before .before .before .before .before .before .before .before .before .before .before .before .args .a .0) (c .before .before .before .before .before .before .before .before .before .before .before .before .before .before .before .before .args .room .now) (c .before .before .before .before .before .before .if2 .left) (places (c .before .before .before)) (c .before .before .broken .result) (c .before .before .broken .ensures) (not-true _ (c .if3 .taken))
 
 list-requires : tie.Need-list-requires
-list-requires c κs = points-asked (c .before .before .before .before .before .before .before .before .before .before .before .fill .ensures) (c .before .before .before .before .before .before .before .before .before .before .before .before .before .if1 .left) (c .before .before .before .before .before .before .before .before .before .before .before .before .before .before .before .before .before .args .k) (c .before .before .before .before .before .before .before .before .before .before .before .before .before .before .before .before .before .args .a .0) (c .before .before .before .before .before .before .before .before .before .before .before .before .before .before .before .before .before .args .room .now) (c .before .before .before .before .before .before .before .if2 .left) (places (c .before .before .before .before)) (c .before .before .before .broken .result) (c .before .before .before .broken .ensures) (not-false _ (c .before .if3 .left))
+list-requires c κs = finding-asked (c .before .before .before .before .before .before .before .before .before .before .before .fill .ensures) (c .before .before .before .before .before .before .before .before .before .before .before .before .before .if1 .left) (c .before .before .before .before .before .before .before .before .before .before .before .before .before .before .before .before .before .args .k) (c .before .before .before .before .before .before .before .before .before .before .before .before .before .before .before .before .before .args .a .0) (c .before .before .before .before .before .before .before .before .before .before .before .before .before .before .before .before .before .args .room .now) (c .before .before .before .before .before .before .before .if2 .left) (places (c .before .before .before .before)) (c .before .before .before .broken .result) (c .before .before .before .broken .ensures) (not-false _ (c .before .if3 .left))
 
 same-length-3 : tie.Need-same-length-3
 same-length-3 c = search needs
@@ -52,7 +52,7 @@ same-length-4 : tie.Need-same-length-4
 same-length-4 c = search needs
 
 returns-4 : tie.Need-returns-4
-returns-4 c = points-found (c .before .before .before .before .before .before .before .before .before .before .before .before .before .before .fill .ensures) (c .before .before .before .before .before .before .before .before .before .before .before .before .before .before .before .before .if1 .left) (c .before .before .before .before .before .before .before .before .before .before .before .before .before .before .before .before .before .before .before .before .args .k) (c .before .before .before .before .before .before .before .before .before .before .before .before .before .before .before .before .before .before .before .before .args .a .0) (c .before .before .before .before .before .before .before .before .before .before .before .before .before .before .before .before .before .before .before .before .args .room .now) (c .before .before .before .before .before .before .before .before .before .before .if2 .left) (places (c .before .before .before .before .before .before .before)) (c .before .before .before .before .before .before .broken .result) (c .before .before .before .before .before .before .broken .ensures) (not-false _ (c .before .before .before .before .if3 .left)) (c .before .before .list .ensures)
+returns-4 c = finding-found (c .before .before .before .before .before .before .before .before .before .before .before .before .before .before .fill .ensures) (c .before .before .before .before .before .before .before .before .before .before .before .before .before .before .before .before .if1 .left) (c .before .before .before .before .before .before .before .before .before .before .before .before .before .before .before .before .before .before .before .before .args .k) (c .before .before .before .before .before .before .before .before .before .before .before .before .before .before .before .before .before .before .before .before .args .a .0) (c .before .before .before .before .before .before .before .before .before .before .before .before .before .before .before .before .before .before .before .before .args .room .now) (c .before .before .before .before .before .before .before .before .before .before .if2 .left) (places (c .before .before .before .before .before .before .before)) (c .before .before .before .before .before .before .broken .result) (c .before .before .before .before .before .before .broken .ensures) (not-false _ (c .before .before .before .before .if3 .left)) (c .before .before .list .ensures)
 
 pub explain-spec : {M : Type 1} → statement M
 explain-spec =

@@ -1,11 +1,11 @@
--- `saltreeve::reasons::pointed` meets its contract. Assumes nothing.
+-- `saltreeve::reasons::finding` meets its contract. Assumes nothing.
 use native.Mathlib.Omega.{arith}
 use mathlib.Core.Path.{_∙_}
 use mir.Syntax.{w64}
 use mir.ValLaws.{toZ-ofZ, toZ-pos}
 use borrow.Author.Needs.{needs}
-use Rattle.saltreeve.proofs.reasons.pointed.Statement.{statement}
-use Rattle.saltreeve.proofs.reasons.pointed.Tie as tie
+use Rattle.saltreeve.proofs.reasons.finding.Statement.{statement}
+use Rattle.saltreeve.proofs.reasons.finding.Tie as tie
 
 enum-known-r : tie.Need-enum-known-r
 enum-known-r c = search needs
@@ -31,8 +31,8 @@ returns c = let h = rw (c .before .before .r .given .1) at (c .before .before .b
 returns-2 : tie.Need-returns-2
 returns-2 c = rw (c .before .before .r2 .given .1) (toZ-ofZ w64 (c .refusal .result) (record { sfits = omega (arith, (c .refusal .ok)) }) ∙ (c .refusal .ensures))
 
-pub pointed-spec : {M : Type 1} → statement M
-pointed-spec =
+pub finding-spec : {M : Type 1} → statement M
+finding-spec =
     tie.close
     (tie.spec
     enum-known-r

@@ -12,11 +12,11 @@ use Rattle.sheet.specs.Names.{countsOf}
 use Rattle.sheet.specs.Stands.{Opens}
 use Rattle.sheet.specs.laws.Count.{opens-held, opens-outcome, whole-refused}
 use Rattle.sheet.specs.laws.Stands.{Places}
-use Rattle.why.specs.declared.Pointed.the-variants.{Lines, Refused}
+use Rattle.why.specs.declared.FindingExplained.the-variants.{Lines, Refused}
 use Rattle.why.specs.declared.Sides.{Sides}
-use Rattle.why.specs.Finding.{BrokenSub, Points, concept}
+use Rattle.why.specs.Finding.{BrokenSub, ExplainsFinding, concept}
 use Rattle.why.specs.Sides.{Breaking, BrokenIf}
-use Rattle.why.specs.Finding.Points.{refused, not-broken, found}
+use Rattle.why.specs.Finding.ExplainsFinding.{refused, not-broken, found}
 use Rattle.why.specs.Asked.{Asked}
 use Rattle.why.specs.Writing.{Answered}
 use Rattle.why.specs.Reason.{Reason}
@@ -25,8 +25,8 @@ use Rattle.why.specs.laws.Finding.{broken-in}
 
 module _ {sheet s u : List ℕ} {e : Ended} (w : Opens sheet s u e) (long : length s ≡ size width) (k a : ℕ) (before : List ℕ) where
   -- a refused sheet
-  pub points-refused : (e .why ≡ 0 → ⊥) → Points sheet s u k a before before (Refused (e .line) (e .why))
-  points-refused z = refused (whole-refused long w z .reads) refl
+  pub finding-refused : (e .why ≡ 0 → ⊥) → ExplainsFinding sheet s u k a before before (Refused (e .line) (e .why))
+  finding-refused z = refused (whole-refused long w z .reads) refl
 
   -- an accepted one
   module _ (z : e .why ≡ 0) (p : Places (e .kept .table)) (r : Sides) (b : Breaking sheet (e .kept .table) u k a r) where
@@ -38,21 +38,21 @@ module _ {sheet s u : List ℕ} {e : Ended} (w : Opens sheet s u e) (long : leng
     here = subst (λ (n : Counts). BrokenIf (r .named) n (w .said) u k a r) (sym counts-are) (b (w .said) (opens-outcome w z) (w .names))
 
     -- the rule is not there, of another kind or not broken
-    pub points-not : r .named ≡ false → Points sheet s u k a before before (Refused 0 25)
-    points-not f = not-broken long (opens-outcome w z) (opens-held w z) (subst (λ (t : Bool). BrokenIf t (countsOf (w .said .names)) (w .said) u k a r) f here) refl
+    pub finding-not : r .named ≡ false → ExplainsFinding sheet s u k a before before (Refused 0 25)
+    finding-not f = not-broken long (opens-outcome w z) (opens-held w z) (subst (λ (t : Bool). BrokenIf t (countsOf (w .said .names)) (w .said) u k a r) f here) refl
 
     module _ (t : r .named ≡ true) where
       broken-here : BrokenSub (countsOf (w .said .names)) (w .said) u k a (r .left) (r .right)
       broken-here = subst (λ (y : Bool). BrokenIf y (countsOf (w .said .names)) (w .said) u k a r) t here
 
       -- the item is in the left concept: a reason can be asked for
-      pub points-asked : Asked sheet (e .kept .table) (In a (r .left))
-      points-asked = explains-asked w long (In a (r .left)) before z p (subst (λ (n : Counts). Holds width n u (In a (r .left))) counts-are (broken-in broken-here))
+      pub finding-asked : Asked sheet (e .kept .table) (In a (r .left))
+      finding-asked = explains-asked w long (In a (r .left)) before z p (subst (λ (n : Counts). Holds width n u (In a (r .left))) counts-are (broken-in broken-here))
 
       -- it is found
-      pub points-found : {after : List ℕ} {m : ℕ} → Answered sheet (e .kept .table) (In a (r .left)) before after m → Points sheet s u k a before after (Lines m (concept (r .right)))
-      points-found {after} h =
+      pub finding-found : {after : List ℕ} {m : ℕ} → Answered sheet (e .kept .table) (In a (r .left)) before after m → ExplainsFinding sheet s u k a before after (Lines m (concept (r .right)))
+      finding-found {after} h =
           let o = opens-outcome w z in
           let y = h (w .said) o (w .names) in
-          subst (λ (j : ℕ). Points sheet s u k a before after (Lines j (concept (r .right)))) (sym (y .total))
+          subst (λ (j : ℕ). ExplainsFinding sheet s u k a before after (Lines j (concept (r .right)))) (sym (y .total))
           (found long o (opens-held w z) broken-here (subst (λ (n : Counts). Reason n (In a (r .left)) (w .said .statements) (y .lines)) (sym counts-are) (y .reason)) (y .listed))
