@@ -7,12 +7,13 @@ use Rattle.text.specs.Bytes.{same}
 use Rattle.text.specs.Text.{decimal}
 use Rattle.closure.specs.declared.Counts.{Counts}
 use Rattle.closure.specs.Cell.{Cell, cellOf}
-use Rattle.sheet.specs.declared.Form.{Form}
-use Rattle.sheet.specs.declared.Form.the-variants as form
-use Rattle.sheet.specs.declared.Table.{Table}
-use Rattle.sheet.specs.Names.{Names}
-use Rattle.sheet.specs.Said.{Said, statementOf}
-use Rattle.sheet.specs.Words.{Field}
+use Rattle.field.specs.declared.Form.{Form}
+use Rattle.field.specs.declared.Form.the-variants as form
+use Rattle.field.specs.declared.Table.{Table}
+use Rattle.field.specs.Names.{Names}
+use Rattle.sheet.specs.Said.{Said}
+use Rattle.saying.specs.Read.{statementOf}
+use Rattle.field.specs.Words.{Field}
 use Rattle.why.specs.declared.Sides.{Sides}
 use Rattle.why.specs.Finding.{BrokenSub}
 use Rattle.why.specs.Sides.{Breaking}

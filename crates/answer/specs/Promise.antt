@@ -8,7 +8,7 @@ use Rattle.closure.specs.Cell.{Cell}
 use Rattle.closure.specs.Cell.Cell.{In}
 use Rattle.closure.specs.Layout.{Holds, width}
 use Rattle.report.specs.Lines.{lineOf}
-use Rattle.sheet.specs.Names.{countsOf}
+use Rattle.field.specs.Names.{countsOf}
 use Rattle.sheet.specs.Promise.{Held, refusedText}
 use Rattle.sheet.specs.Said.{Said, SheetStatement, outcome}
 use Rattle.sheet.specs.Said.Outcome.{accepted, refused as refusedAt}

@@ -9,14 +9,13 @@ use Rattle.text.specs.Bytes.{bytes, same}
 use Rattle.text.specs.Split.{fields}
 use Rattle.text.specs.Text.{decimal}
 use Rattle.closure.specs.Cell.{Cell, cellOf}
-use Rattle.sheet.specs.declared.Form.the-variants as form
-use Rattle.sheet.specs.declared.Marks.{Marks}
-use Rattle.sheet.specs.declared.StatementWord.{StatementWord}
-use Rattle.sheet.specs.Fault.{lineFault}
-use Rattle.sheet.specs.Names.{Names}
-use Rattle.sheet.specs.Read.{at, itemOf}
-use Rattle.sheet.specs.Said.{statementOf}
-use Rattle.sheet.specs.Words.{Field, bodyOf, formOf}
+use Rattle.field.specs.declared.Form.the-variants as form
+use Rattle.line.specs.declared.Marks.{Marks}
+use Rattle.field.specs.declared.StatementWord.{StatementWord}
+use Rattle.line.specs.Fault.{lineFault}
+use Rattle.field.specs.Names.{Names}
+use Rattle.field.specs.Words.{at, Field, bodyOf, formOf}
+use Rattle.saying.specs.Read.{itemOf, statementOf}
 
 -- the question without a line feed at its end
 unfoldable pub bare : List ℕ → List ℕ

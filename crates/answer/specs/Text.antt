@@ -5,7 +5,7 @@ use lib.ListN.{length, getD}
 use Rattle.text.specs.Bytes.{bytes}
 use Rattle.text.specs.Split.{lines}
 use Rattle.text.specs.Text.{decimal}
-use Rattle.sheet.specs.Names.{Names}
+use Rattle.field.specs.Names.{Names}
 use Rattle.sheet.specs.Promise.{tabbed, totalText}
 
 -- `line`, a number, the bytes of a line

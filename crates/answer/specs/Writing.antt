@@ -8,14 +8,14 @@ use Rattle.reason.specs.Picked.{markWords, picked}
 use Rattle.text.specs.Text.{Wrote}
 use Rattle.closure.specs.declared.Counts.{Counts}
 use Rattle.closure.specs.Cell.{Cell}
-use Rattle.sheet.specs.declared.Form.{Form}
-use Rattle.sheet.specs.declared.Form.the-variants as form
-use Rattle.sheet.specs.declared.Table.{Table}
-use Rattle.sheet.specs.Names.{Names, countsOf}
+use Rattle.field.specs.declared.Form.{Form}
+use Rattle.field.specs.declared.Form.the-variants as form
+use Rattle.field.specs.declared.Table.{Table}
+use Rattle.field.specs.Names.{Names, countsOf}
 use Rattle.sheet.specs.Promise.{Held}
 use Rattle.sheet.specs.Said.{Said, SheetStatement, outcome}
 use Rattle.sheet.specs.Said.Outcome.{accepted}
-use Rattle.sheet.specs.Table.{Roomy, namesOf}
+use Rattle.field.specs.Table.{Roomy, namesOf}
 use Rattle.why.specs.Listed.{linesOf}
 use Rattle.why.specs.Reason.{Reason}
 use Rattle.answer.specs.declared.Absent.{Absent}

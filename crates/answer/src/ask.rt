@@ -5,8 +5,8 @@ ghost use Rattle.text.specs.Bytes.{same};
 ghost use Rattle.text.specs.Split.{fields};
 ghost use Rattle.text.specs.Text.{decimal};
 ghost use Rattle.sheet.specs.Pass.{Judges};
-ghost use Rattle.sheet.specs.Table.{Roomy, namesOf};
-ghost use Rattle.sheet.specs.Words.{bodyOf, formOf};
+ghost use Rattle.field.specs.Table.{Roomy, namesOf};
+ghost use Rattle.field.specs.Words.{bodyOf, formOf};
 ghost use Rattle.why.specs.Asked.{Of};
 ghost use Rattle.answer.specs.Question.{aboutFinding, bare as bareOf};
 ghost use Rattle.answer.specs.Asked.{Asking, BreakingIf, FindingIf, FormAsked, SidesIf};
@@ -14,9 +14,9 @@ use crate::CellAsked;
 use crate::FindingAsked;
 use closure::Item;
 use closure::Statement;
-use sheet::Form;
-use sheet::Marks;
-use sheet::Table;
+use field::Form;
+use field::Table;
+use line::Marks;
 use why::Sides;
 
 // The question without a line feed at its end.
@@ -54,13 +54,13 @@ fn stated(sheet: &[u8], t: Table, q: &[u8]) -> CellAsked
     requires { ⌜ Roomy t ⌝ }
     ensures { λ r. ⌜ FormAsked (namesOf (now (sheet .entry)) t) (formOf (fields (now (q .entry)))) (bodyOf (fields (now (q .entry)))) r ⌝ }
 {
-    let f = sheet::words::form(q);
+    let f = field::words::form(q);
     match f {
         Form::Concept => no_cell(),
         Form::Role => no_cell(),
         Form::Item => no_cell(),
         Form::Statement(w) => {
-            let cell = sheet::statements::statement(sheet, t, q, sheet::words::body(q), w);
+            let cell = saying::statements::statement(sheet, t, q, field::words::body(q), w);
             CellAsked { asked: true, cell }
         }
         Form::Rule(_) => no_cell(),
@@ -78,7 +78,7 @@ pub fn cell(sheet: &[u8], t: Table, q: &[u8]) -> CellAsked
         stated: true,
         rules: 0,
     };
-    if sheet::lines::line_fault(sheet, t, m, q) == 0 {
+    if line::lines::line_fault(sheet, t, m, q) == 0 {
         return stated(sheet, t, q);
     }
     no_cell()
@@ -142,7 +142,7 @@ pub fn finding(sheet: &[u8], t: Table, words: &[u64], q: &[u8]) -> FindingAsked
     }
     let at = text::line::past(q, 0);
     let name = text::line::field(q, text::line::past(q, at));
-    let item = sheet::names::item(sheet, t, name);
+    let item = field::names::item(sheet, t, name);
     let s = sides(sheet, t, words, text::line::field(q, at), item);
     FindingAsked {
         found: s.named,

@@ -6,8 +6,8 @@ ghost use Prim.Native.Nat.{_+_, _*_, _≤_, _<_};
 ghost use lib.ListN.{length, getD};
 ghost use Rattle.text.specs.Split.{fields};
 ghost use Rattle.text.specs.Text.{Wrote};
-ghost use Rattle.sheet.specs.Words.{formOf};
-ghost use Rattle.sheet.specs.Table.{namesOf};
+ghost use Rattle.field.specs.Words.{formOf};
+ghost use Rattle.field.specs.Table.{namesOf};
 ghost use Rattle.row.specs.Row.{rowHasb};
 ghost use Rattle.reason.specs.Picked.{markWords};
 ghost use Rattle.answer.specs.Text.{numberedText};
@@ -16,15 +16,15 @@ use crate::Absent;
 use crate::Printed;
 use closure::Item;
 use closure::Store;
+use field::Form;
+use field::Table;
 use reason::Lines;
-use sheet::Form;
-use sheet::Table;
 
 // Whether a line is that of a statement.
 fn is_statement(line: &[u8]) -> bool
     ensures { λ r. ⌜ r ≡ statementForm (formOf (fields (now (line .entry)))) ⌝ }
 {
-    let f = sheet::words::form(line);
+    let f = field::words::form(line);
     match f {
         Form::Concept => false,
         Form::Role => false,
@@ -115,7 +115,7 @@ fn concept(sheet: &[u8], t: Table, c: usize) -> &[u8]
     let none = text::part::part(sheet, 0, 0);
     if c < counts.concepts {
         if c < Store::CONCEPTS {
-            return sheet::names::name_at(sheet, entries[c]);
+            return field::names::name_at(sheet, entries[c]);
         }
         return none;
     }

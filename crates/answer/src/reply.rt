@@ -3,7 +3,7 @@ ghost use mathlib.Core.Path.{_≡_};
 ghost use mathlib.Core.Bool.{true};
 ghost use Rattle.closure.specs.Cell.{cellOf};
 ghost use Rattle.sheet.specs.Promise.{refusedText};
-ghost use Rattle.sheet.specs.Table.{namesOf};
+ghost use Rattle.field.specs.Table.{namesOf};
 ghost use Rattle.why.specs.Asked.{Asked, Of};
 ghost use Rattle.answer.specs.Promise.{Fitted, Replies};
 ghost use Rattle.answer.specs.Question.{aboutFinding};
@@ -13,8 +13,8 @@ use closure::Concept;
 use closure::Item;
 use closure::Statement;
 use closure::Store;
+use field::Table;
 use reason::Lines;
-use sheet::Table;
 
 // Writes the line of a refusal, if it has place in the room; gives its length.
 fn refuse(room: &mut [u8], line: usize, why: usize) -> usize

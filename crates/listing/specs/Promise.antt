@@ -7,7 +7,7 @@ use Rattle.closure.specs.Layout.{size, width}
 use Rattle.rule.specs.declared.Finding.{Finding}
 use Rattle.sheet.specs.declared.Reading.{Reading}
 use Rattle.sheet.specs.declared.Reading.the-variants.{Accepted, Refused}
-use Rattle.sheet.specs.Names.{countsOf}
+use Rattle.field.specs.Names.{countsOf}
 use Rattle.sheet.specs.Promise.{FindingsIn, Held, Reads}
 use Rattle.sheet.specs.Said.{Said, outcome}
 use Rattle.sheet.specs.Said.Outcome.{accepted as acceptedSheet}

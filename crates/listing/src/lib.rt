@@ -11,13 +11,13 @@ ghost use Rattle.listing.specs.Promise.{ReadsInto};
 ghost use Rattle.listing.specs.Trail.{Going, Went};
 use closure::Counts;
 use closure::Layout;
+use field::Table;
 use rule::Finding;
 use rule::Head;
 use rule::Rule;
 use rule::Search;
 use rule::Total;
 use sheet::Reading;
-use sheet::Table;
 
 // A search for the findings of all rules of a sheet: the finding at hand, the search of its rule, how many that rule has left, and where the sheet is read on for the next rule.
 struct Trail {

@@ -7,12 +7,12 @@ ghost use Rattle.listing.specs.Trail.{Ended, First, Going, Opens, Sought
 use crate::Opening;
 use crate::Trail;
 use closure::Item;
+use field::Table;
 use rule::Finding;
 use rule::Head;
 use rule::Search;
 use rule::Second;
 use sheet::Reading;
-use sheet::Table;
 
 // The search of the rule at hand.
 fn search_of(c: Trail) -> Search

@@ -12,14 +12,14 @@ use Rattle.rule.specs.Findings.{Findings}
 use Rattle.rule.specs.Search.{Coming}
 use Rattle.text.specs.Bytes.{bytes}
 use Rattle.text.specs.Text.{decimal, Wrote}
-use Rattle.sheet.specs.Names.{Names, countsOf}
+use Rattle.field.specs.Names.{Names, countsOf}
 use Rattle.sheet.specs.declared.Ended.{Ended}
-use Rattle.sheet.specs.declared.Table.{Table}
+use Rattle.field.specs.declared.Table.{Table}
 use Rattle.sheet.specs.Promise.{FindingsFrom, Prints, findingsText, printLimit, secondText, tabbed}
 use Rattle.sheet.specs.Said.{Said, SheetRule, outcome}
 use Rattle.sheet.specs.Said.Outcome.{accepted}
 use Rattle.sheet.specs.Stands.{Opens}
-use Rattle.sheet.specs.Table.{namesOf}
+use Rattle.field.specs.Table.{namesOf}
 use Rattle.sheet.specs.laws.Stands.{Places}
 use Rattle.report.specs.declared.Tally.{Tally}
 

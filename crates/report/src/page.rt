@@ -3,9 +3,9 @@ ghost use Rattle.sheet.specs.Pass.{Judges};
 ghost use Rattle.report.specs.Lines.{Filled, JudgedAll, Pages};
 use crate::Tally;
 use closure::Store;
+use field::Table;
+use line::Sheet;
 use sheet::Ended;
-use sheet::Sheet;
-use sheet::Table;
 
 // Judges the rules of an accepted sheet one after the other: prints their findings and counts them.
 fn judge_all(sheet: &[u8], t: Table, words: &[u64], room: &mut [u8]) -> Tally

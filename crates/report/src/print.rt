@@ -6,15 +6,15 @@ ghost use lib.ListN.{getD};
 ghost use Rattle.rule.specs.Search.{Ready};
 ghost use Rattle.text.specs.Text.{decimal, Wrote};
 ghost use Rattle.sheet.specs.Promise.{refusedText, secondText, tabbed, totalText};
-ghost use Rattle.sheet.specs.Table.{nameAt, namesOf};
+ghost use Rattle.field.specs.Table.{nameAt, namesOf};
 ghost use Rattle.report.specs.Lines.{RuleLines, Tallied, Tallying, lineText};
 use crate::Tally;
 use closure::Item;
+use field::Table;
 use rule::Finding;
 use rule::Rule;
 use rule::Search;
 use rule::Second;
-use sheet::Table;
 
 // The name of an item; no bytes where there is none with that number.
 fn name(sheet: &[u8], t: Table, a: Item) -> &[u8]
@@ -26,7 +26,7 @@ fn name(sheet: &[u8], t: Table, a: Item) -> &[u8]
     let none = text::part::part(sheet, 0, 0);
     if i < counts.items {
         if i < 128 {
-            return sheet::names::name_at(sheet, entries[i]);
+            return field::names::name_at(sheet, entries[i]);
         }
         return none;
     }

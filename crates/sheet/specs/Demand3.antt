@@ -9,8 +9,8 @@ use Rattle.row.specs.Bit.{Words}
 use Rattle.closure.specs.declared.Statement.{Statement}
 use Rattle.closure.specs.Layout.{size, width}
 use Rattle.sheet.specs.declared.Reading.{Reading}
-use Rattle.sheet.specs.Fault.{begun}
-use Rattle.sheet.specs.Names.{countsOf}
+use Rattle.line.specs.Fault.{begun}
+use Rattle.field.specs.Names.{countsOf}
 use Rattle.sheet.specs.Promise.{Held, Reads}
 use Rattle.sheet.specs.Said.{Said, marksOf, outcome, statementsOf}
 use Rattle.sheet.specs.Said.Outcome.{accepted, refused}

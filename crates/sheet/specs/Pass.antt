@@ -9,22 +9,22 @@ use Rattle.closure.specs.Layout.{ClosedStore, Holds, size, width}
 use Rattle.rule.specs.declared.Finding.{Finding}
 use Rattle.rule.specs.declared.Total.{Total}
 use Rattle.rule.specs.declared.Total.the-variants.{Count, Refused}
-use Rattle.sheet.specs.declared.Form.{Form}
-use Rattle.sheet.specs.declared.Form.the-variants as form
+use Rattle.field.specs.declared.Form.{Form}
+use Rattle.field.specs.declared.Form.the-variants as form
 use Rattle.sheet.specs.declared.RuleLine.{RuleLine}
-use Rattle.sheet.specs.declared.RuleWord.{RuleWord}
-use Rattle.sheet.specs.declared.StatementWord.{StatementWord}
-use Rattle.sheet.specs.declared.Table.{Table}
+use Rattle.field.specs.declared.RuleWord.{RuleWord}
+use Rattle.field.specs.declared.StatementWord.{StatementWord}
+use Rattle.field.specs.declared.Table.{Table}
 use Rattle.sheet.specs.declared.Whole.{Whole}
-use Rattle.sheet.specs.Fault.{sheetLimit}
-use Rattle.sheet.specs.Names.{Names, countsOf}
-use Rattle.sheet.specs.Nodes.{RuleReady}
+use Rattle.line.specs.Fault.{sheetLimit}
+use Rattle.field.specs.Names.{Names, countsOf}
+use Rattle.saying.specs.Nodes.{RuleReady}
 use Rattle.sheet.specs.Promise.{FindingsFrom, Reads}
-use Rattle.sheet.specs.Read.{ruleOf}
+use Rattle.saying.specs.Read.{ruleOf}
 use Rattle.sheet.specs.Said.{Said, SheetRule, outcome, outcomeFrom}
 use Rattle.sheet.specs.Said.Outcome.{accepted}
-use Rattle.sheet.specs.Table.{Roomy, namesOf}
-use Rattle.sheet.specs.Words.{Field, bodyOf, formOf}
+use Rattle.field.specs.Table.{Roomy, namesOf}
+use Rattle.field.specs.Words.{Field, bodyOf, formOf}
 
 -- the line of a rule has the fields that are due
 abbrev pub RuleIfReady : List ℕ → Type 0

@@ -18,8 +18,8 @@ use Rattle.rule.specs.declared.Second.the-variants as second
 use Rattle.rule.specs.Findings.{Findings}
 use Rattle.sheet.specs.declared.Reading.{Reading}
 use Rattle.sheet.specs.declared.Reading.the-variants as reading
-use Rattle.sheet.specs.Fault.{begun}
-use Rattle.sheet.specs.Names.{Names, countsOf}
+use Rattle.line.specs.Fault.{begun}
+use Rattle.field.specs.Names.{Names, countsOf}
 use Rattle.sheet.specs.Said.{Said, SheetRule, Outcome, marksOf, outcome, statementsOf}
 use Rattle.sheet.specs.Said.Outcome.{refused as refusedAt, accepted as acceptedSheet}
 

@@ -9,16 +9,16 @@ use Rattle.closure.specs.Cell.{turn}
 use Rattle.closure.specs.declared.Statement.{Statement}
 use Rattle.closure.specs.declared.Statement.the-variants as stated
 use Rattle.rule.specs.declared.Rule.{Rule}
-use Rattle.sheet.specs.declared.Form.{Form}
-use Rattle.sheet.specs.declared.Form.the-variants as form
-use Rattle.sheet.specs.declared.Section.the-variants as section
-use Rattle.sheet.specs.declared.StatementWord.{StatementWord}
-use Rattle.sheet.specs.declared.StatementWord.the-variants as statement
-use Rattle.sheet.specs.declared.Marks.{Marks}
-use Rattle.sheet.specs.Fault.{headerFault, lineFault, none, sheetLimit}
-use Rattle.sheet.specs.Names.{Names, inverted, plain}
-use Rattle.sheet.specs.Read.{at, conceptOf, roleOf, itemOf, ruleOf}
-use Rattle.sheet.specs.Words.{Field, formOf, bodyOf}
+use Rattle.field.specs.declared.Form.{Form}
+use Rattle.field.specs.declared.Form.the-variants as form
+use Rattle.field.specs.declared.Section.the-variants as section
+use Rattle.field.specs.declared.StatementWord.{StatementWord}
+use Rattle.field.specs.declared.StatementWord.the-variants as statement
+use Rattle.line.specs.declared.Marks.{Marks}
+use Rattle.line.specs.Fault.{headerFault, lineFault, none, sheetLimit}
+use Rattle.field.specs.Names.{Names, inverted, plain}
+use Rattle.field.specs.Words.{at, Field, formOf, bodyOf}
+use Rattle.saying.specs.Read.{ruleOf, statementOf}
 
 -- a rule of a sheet, and the number of its line
 pub record SheetRule : Type 0 where
@@ -47,14 +47,6 @@ marksOf s = record { stated = not (none (s .statements)); rules = length (s .rul
 -- nothing
 abbrev pub nothing : Said
 nothing = record { names = record { concepts = []; roles = []; items = [] }; statements = []; rules = [] }
-
--- the statement that the fields after the word say; `~` on one side of `runder`, and not on both, makes it a step to the inverse
-abbrev pub statementOf : Names → StatementWord → List Field → Statement
-statementOf n statement.In fs = stated.In (itemOf n (at 0 fs)) (conceptOf n (at 1 fs))
-statementOf n statement.Rel fs = stated.Link (roleOf n (at 0 fs)) (itemOf n (at 1 fs)) (itemOf n (at 2 fs))
-statementOf n statement.Same fs = stated.Same (itemOf n (at 0 fs)) (itemOf n (at 1 fs))
-statementOf n statement.Under fs = stated.Under (conceptOf n (at 0 fs)) (conceptOf n (at 1 fs))
-statementOf n statement.RoleUnder fs = stated.RoleUnder (roleOf n (plain (at 0 fs))) (turn (inverted (at 0 fs)) (inverted (at 1 fs))) (roleOf n (plain (at 1 fs)))
 
 -- what has been said after a line more, which has the number k
 abbrev pub saying : ℕ → Said → Form → List Field → Said

@@ -12,13 +12,13 @@ use Rattle.closure.specs.Layout.{size, width}
 use Rattle.closure.specs.Promise.{Keeps}
 use Rattle.sheet.specs.declared.Ended.{Ended}
 use Rattle.sheet.specs.declared.Kept.{Kept}
-use Rattle.sheet.specs.declared.Marks.{Marks}
-use Rattle.sheet.specs.declared.Table.{Table}
-use Rattle.sheet.specs.Fault.{begun, lineFault, ruleLimit, sheetLimit}
+use Rattle.line.specs.declared.Marks.{Marks}
+use Rattle.field.specs.declared.Table.{Table}
+use Rattle.line.specs.Fault.{begun, lineFault, ruleLimit, sheetLimit}
 use Rattle.sheet.specs.Promise.{Leaves, Stopped}
 use Rattle.sheet.specs.Said.{Outcome, Said, marksOf, outcome}
 use Rattle.sheet.specs.Said.Outcome.{accepted, refused}
-use Rattle.sheet.specs.Table.{Roomy, namesOf}
+use Rattle.field.specs.Table.{Roomy, namesOf}
 
 -- the table t, the marks m and the words s stand for what was said, x
 pub record Stands (sheet : List ℕ) (t : Table) (m : Marks) (s : List ℕ) (x : Said) : Type 0 where

@@ -1,24 +1,8 @@
 -- What is proved of sheets.
-pub mod Words
-pub mod Due
-pub mod Names
-pub mod Walk
-pub mod Fault
-pub mod Fields
-pub mod Accepted
-pub mod Tag
-pub mod Entry
 pub mod Stands
 pub mod Taken
 pub mod Lines
 pub mod Sheets
-pub mod Read
-pub mod Nodes
-pub mod Parse
-pub mod Rules
-pub mod Within
-pub mod Formed
-pub mod Judged
 pub mod Settled
 pub mod Pass
 pub mod Few

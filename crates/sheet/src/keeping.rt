@@ -3,12 +3,12 @@ ghost use lib.ListN.{length};
 ghost use Rattle.closure.specs.Cell.{With, Within, cellOf};
 ghost use Rattle.closure.specs.Layout.{ClosedStore, Fits, Holds, size, width};
 ghost use Rattle.closure.specs.Promise.{Keeps};
-ghost use Rattle.sheet.specs.Fault.{begun as begunBy};
+ghost use Rattle.line.specs.Fault.{begun as begunBy};
 ghost use Rattle.sheet.specs.Stands.{Begins};
-use crate::Marks;
 use closure::Counts;
 use closure::Statement;
 use closure::Store;
+use line::Marks;
 
 // Whether a statement or a rule was accepted.
 pub fn begun(m: Marks) -> bool

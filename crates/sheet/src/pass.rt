@@ -3,19 +3,19 @@ ghost use mathlib.Core.Path.{_≡_};
 ghost use mathlib.Core.Bool.{false};
 ghost use Rattle.text.specs.Split.{fields};
 ghost use Rattle.sheet.specs.Pass.{Accepts, LineRule, Next, Opened, Paused, RuleIfReady};
-ghost use Rattle.sheet.specs.Table.{Roomy, namesOf};
-ghost use Rattle.sheet.specs.Words.{bodyOf, formOf};
-use crate::Form;
+ghost use Rattle.field.specs.Table.{Roomy, namesOf};
+ghost use Rattle.field.specs.Words.{bodyOf, formOf};
 use crate::RuleLine;
-use crate::Table;
 use closure::Item;
+use field::Form;
+use field::Table;
 use rule::Head;
 
 // No rule.
 fn no_rule(line: usize, past: usize) -> RuleLine
     ensures { λ r. ⌜ (r .found ≡ false) × (r .line ≡ line) × (r .past ≡ past) ⌝ }
 {
-    let rule = crate::rules::bare(Head::Same(Item(0), Item(0)));
+    let rule = saying::rules::bare(Head::Same(Item(0), Item(0)));
     RuleLine {
         found: false,
         line,
@@ -29,14 +29,14 @@ fn rule_in(sheet: &[u8], t: Table, line: &[u8], number: usize, past: usize) -> R
     requires { ⌜ Roomy t × RuleIfReady (now line) ⌝ }
     ensures { λ r. ⌜ LineRule (namesOf (now (sheet .entry)) t) (formOf (fields (now (line .entry)))) (bodyOf (fields (now (line .entry)))) number past r ⌝ }
 {
-    let f = crate::words::form(line);
+    let f = field::words::form(line);
     match f {
         Form::Concept => no_rule(number, past),
         Form::Role => no_rule(number, past),
         Form::Item => no_rule(number, past),
         Form::Statement(_) => no_rule(number, past),
         Form::Rule(w) => {
-            let rule = crate::rules::rule_of(sheet, t, line, crate::words::body(line), w);
+            let rule = saying::rules::rule_of(sheet, t, line, field::words::body(line), w);
             RuleLine {
                 found: true,
                 line: number,

@@ -1,12 +1,10 @@
 // Reading a sheet into a lent store.
 ghost use mathlib.Core.Path.{_≡_};
 ghost use Rattle.sheet.specs.Pass.{Judges, Totalled, Wholly, countedIn};
-ghost use Rattle.sheet.specs.Promise.{Reads};
 use crate::Reading;
-use crate::Sheet;
-use crate::Table;
 use crate::Whole;
 use closure::Store;
+use field::Table;
 use rule::Total;
 
 // How many findings an answer counts.
@@ -45,7 +43,7 @@ pub fn whole(sheet: &[u8], words: &mut [u64]) -> Whole
     ensures { λ r. ⌜ Wholly (now (sheet .entry)) (now (words .entry)) (now (words .exit)) r ⌝ }
 {
     if words.len() != Store::WORDS {
-        let table = crate::tables::empty();
+        let table = field::tables::empty();
         return Whole {
             answer: Reading::Refused(0, 1),
             table,
@@ -66,15 +64,5 @@ pub fn whole(sheet: &[u8], words: &mut [u64]) -> Whole
     Whole {
         answer: Reading::Refused(e.line, e.why),
         table,
-    }
-}
-
-impl Sheet {
-    // Reads a sheet into the lent store: what follows from its statements, and how many findings its rules have.
-    pub fn read(sheet: &[u8], words: &mut [u64]) -> Reading
-        ensures { λ r. ⌜ Reads (now (sheet .entry)) (now (words .entry)) (now (words .exit)) r ⌝ }
-    {
-        let r = whole(sheet, words);
-        r.answer
     }
 }

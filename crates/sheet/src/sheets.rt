@@ -2,15 +2,15 @@ ghost use mathlib.Core.Path.{_≡_};
 ghost use Prim.Native.Nat.{_≤_};
 ghost use lib.ListN.{length};
 ghost use Rattle.text.specs.Split.{partsFrom};
-ghost use Rattle.sheet.specs.Fault.{sheetLimit};
+ghost use Rattle.line.specs.Fault.{sheetLimit};
 ghost use Rattle.closure.specs.Layout.{size, width};
 ghost use Rattle.sheet.specs.Said.{nothing, outcome, outcomeFrom};
 ghost use Rattle.sheet.specs.Stands.{Ends, Opens, Stands};
 ghost use Rattle.sheet.specs.laws.Sheets.{Blank};
 use crate::Ended;
 use crate::Kept;
-use crate::Marks;
-use crate::Sheet;
+use line::Marks;
+use line::Sheet;
 
 // Reads the lines from a place of the sheet on, the first of which is line 2, up to the end or to the first faulty line.
 fn read_lines(sheet: &[u8], words: &mut [u64], from: usize, first: Kept) -> Ended
@@ -25,7 +25,7 @@ fn read_lines(sheet: &[u8], words: &mut [u64], from: usize, first: Kept) -> Ende
         let bytes = text::part::part(sheet, at, end - at);
         let t = kept.table;
         let m = kept.marks;
-        let why = crate::lines::line_fault(sheet, t, m, bytes);
+        let why = line::lines::line_fault(sheet, t, m, bytes);
         if why == 0 {
             kept = crate::taking::take(sheet, words, kept, at, bytes);
             line += 1;
@@ -45,7 +45,7 @@ fn read_lines(sheet: &[u8], words: &mut [u64], from: usize, first: Kept) -> Ende
 fn blank() -> Kept
     ensures { λ r. ⌜ Blank r ⌝ }
 {
-    let table = crate::tables::empty();
+    let table = field::tables::empty();
     let marks = Marks {
         stated: false,
         rules: 0,
@@ -61,7 +61,7 @@ fn read_all(sheet: &[u8], words: &mut [u64]) -> Ended
     row::change::zero_all(words);
     let kept = blank();
     let end = text::part::end_of(sheet, 0, 10);
-    let why = crate::lines::header_fault(text::part::part(sheet, 0, end));
+    let why = line::lines::header_fault(text::part::part(sheet, 0, end));
     if why == 0 {
         return read_lines(sheet, words, end + 1, kept);
     }

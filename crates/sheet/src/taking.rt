@@ -5,14 +5,15 @@ ghost use lib.ListN.{length};
 ghost use Rattle.text.specs.Split.{partsFrom};
 ghost use Rattle.closure.specs.Cell.{Within, cellOf};
 ghost use Rattle.closure.specs.Layout.{Fits, size, width};
-ghost use Rattle.sheet.specs.Fault.{begun, none, ruleLimit};
-ghost use Rattle.sheet.specs.Said.{Said, lineSaid, saying, statementOf};
+ghost use Rattle.line.specs.Fault.{begun, none, ruleLimit};
+ghost use Rattle.sheet.specs.Said.{Said, lineSaid, saying};
+ghost use Rattle.saying.specs.Read.{statementOf};
 ghost use Rattle.sheet.specs.Stands.{Begins, Stands, Taken, Takes, oneRule};
-ghost use Rattle.sheet.specs.Table.{namesOf};
-use crate::Form;
+ghost use Rattle.field.specs.Table.{namesOf};
 use crate::Kept;
-use crate::Marks;
-use crate::StatementWord;
+use field::Form;
+use field::StatementWord;
+use line::Marks;
 
 // Takes a statement: adds it to the store, which is made fresh by the first one.
 fn take_statement(
@@ -30,7 +31,7 @@ fn take_statement(
     let m = k.marks;
     let counts = table.counts;
     crate::keeping::begin(words, counts, m);
-    let s = crate::statements::statement(sheet, table, line, from, w);
+    let s = saying::statements::statement(sheet, table, line, from, w);
     crate::keeping::state(words, counts, s);
     let marks = Marks {
         stated: true,
@@ -60,24 +61,24 @@ fn take_form(sheet: &[u8], words: &mut [u64], k: Kept, start: usize, line: &[u8]
     requires { ⌜ Takes (now sheet) (k .table) (k .marks) (now words) start (now line) × (none (now line) ≡ false) ⌝ }
     ensures { λ r. ⌜ Taken (now (sheet .entry)) (k .table) (k .marks) (now (words .entry)) (λ j x. lineSaid j x (now (line .entry))) (r .table) (r .marks) (now (words .exit)) ⌝ }
 {
-    let f = crate::words::form(line);
-    let from = crate::words::body(line);
+    let f = field::words::form(line);
+    let from = field::words::body(line);
     let t = k.table;
     let marks = k.marks;
     match f {
         Form::Concept => {
-            let p = crate::tables::entry(start, line, from);
-            let table = crate::tables::with_concept(t, p);
+            let p = field::tables::entry(start, line, from);
+            let table = field::tables::with_concept(t, p);
             Kept { table, marks }
         }
         Form::Role => {
-            let p = crate::tables::entry(start, line, from);
-            let table = crate::tables::with_role(t, p);
+            let p = field::tables::entry(start, line, from);
+            let table = field::tables::with_role(t, p);
             Kept { table, marks }
         }
         Form::Item => {
-            let p = crate::tables::entry(start, line, from);
-            let table = crate::tables::with_item(t, p);
+            let p = field::tables::entry(start, line, from);
+            let table = field::tables::with_item(t, p);
             Kept { table, marks }
         }
         Form::Statement(w) => take_statement(sheet, words, k, line, from, w),

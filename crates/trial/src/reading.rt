@@ -5,7 +5,6 @@ ghost use mathlib.Core.List.{_++_};
 ghost use lib.ListN.{length, drop};
 ghost use Rattle.trial.specs.Reading.{TrialRead, answerWords, wordsOf};
 use sheet::Reading;
-use sheet::Sheet;
 
 // What reading a sheet gives, as words.
 fn words_of(r: Reading) -> [u64; 6]
@@ -44,7 +43,7 @@ pub extern "C" fn trial_read(sheet: &[u8], words: &mut [u64], out: &mut [u64]) -
     if out.len() < 6 {
         return 18446744073709551517;
     }
-    let r = Sheet::read(sheet, words);
+    let r = sheet::read(sheet, words);
     let answer = words_of(r);
     put(out, answer);
     0

@@ -3,11 +3,11 @@ use mathlib.Core.Path.{_≡_}
 use mathlib.Core.List.{List}
 use Prim.Native.Nat.{ℕ}
 use Rattle.closure.specs.Cell.{Cell}
-use Rattle.sheet.specs.declared.Table.{Table}
+use Rattle.field.specs.declared.Table.{Table}
 use Rattle.sheet.specs.Pass.{Accepts}
 use Rattle.sheet.specs.Said.{Said, outcome}
 use Rattle.sheet.specs.Said.Outcome.{accepted}
-use Rattle.sheet.specs.Table.{Roomy, namesOf}
+use Rattle.field.specs.Table.{Roomy, namesOf}
 use Rattle.reason.specs.Picked.{picked}
 use Rattle.why.specs.Reason.{FollowsFrom, Reason}
 

@@ -5,7 +5,7 @@ use Prim.Native.Nat.{ℕ, _*_, _≤_}
 use lib.ListN.{length, take}
 use Rattle.closure.specs.declared.Counts.{Counts}
 use Rattle.closure.specs.Cell.{Within, cellOf}
-use Rattle.sheet.specs.declared.Table.{Table}
+use Rattle.field.specs.declared.Table.{Table}
 use Rattle.sheet.specs.Said.{SheetStatement}
 use Rattle.reason.specs.Code.{cellAt}
 use Rattle.reason.specs.Picked.{markWords}

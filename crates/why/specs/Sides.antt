@@ -9,7 +9,7 @@ use Rattle.rule.specs.declared.Node.{Node}
 use Rattle.rule.specs.declared.Node.the-variants as node
 use Rattle.rule.specs.declared.Rule.{Rule}
 use Rattle.sheet.specs.declared.RuleLine.{RuleLine}
-use Rattle.sheet.specs.declared.Table.{Table}
+use Rattle.field.specs.declared.Table.{Table}
 use Rattle.sheet.specs.Said.{Said}
 use Rattle.why.specs.declared.NodeName.{NodeName}
 use Rattle.why.specs.declared.Sides.{Sides}

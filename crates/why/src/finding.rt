@@ -2,7 +2,7 @@
 ghost use mathlib.Core.Path.{_≡_};
 ghost use mathlib.Core.Bool.{false};
 ghost use Rattle.sheet.specs.Pass.{Accepts, Judges};
-ghost use Rattle.sheet.specs.Table.{Roomy};
+ghost use Rattle.field.specs.Table.{Roomy};
 ghost use Rattle.why.specs.Asked.{Of};
 ghost use Rattle.why.specs.Finding.{ExplainsFinding};
 ghost use Rattle.why.specs.Sides.{Breaking, NodeIs, RuleFound, SidesAre};
@@ -13,11 +13,11 @@ use closure::Concept;
 use closure::Item;
 use closure::Statement;
 use closure::Store;
+use field::Table;
 use rule::Head;
 use rule::Node;
 use rule::Rule;
 use sheet::RuleLine;
-use sheet::Table;
 
 // No name.
 fn no_name() -> NodeName

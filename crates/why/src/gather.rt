@@ -3,14 +3,14 @@ ghost use mathlib.Core.Path.{_≡_};
 ghost use lib.ListN.{length};
 ghost use Rattle.closure.specs.Cell.{cellOf};
 ghost use Rattle.sheet.specs.Pass.{Accepts};
-ghost use Rattle.sheet.specs.Table.{Roomy};
+ghost use Rattle.field.specs.Table.{Roomy};
 ghost use Rattle.reason.specs.Picked.{markWords};
 ghost use Rattle.reason.specs.Promise.{Clear};
 ghost use Rattle.why.specs.Asked.{Asked, ReasonMarked};
 ghost use Rattle.why.specs.Gather.{Gathered, statementLimit};
 use closure::Statement;
+use field::Table;
 use reason::Lines;
-use sheet::Table;
 
 // Keeps the statements of an accepted sheet as numbers; says how many they are.
 fn gather(sheet: &[u8], t: Table, codes: &mut [u32; Lines::MOST]) -> usize

@@ -6,15 +6,15 @@ pub mod stating;
 ghost use Prim.Native.Nat.{_≤_};
 ghost use Rattle.closure.specs.Cell.{cellOf};
 ghost use Rattle.sheet.specs.Pass.{Accepts};
-ghost use Rattle.sheet.specs.Table.{Roomy};
+ghost use Rattle.field.specs.Table.{Roomy};
 ghost use Rattle.why.specs.Asked.{Asked};
 ghost use Rattle.why.specs.Promise.{Explains};
 ghost use Rattle.why.specs.Writing.{Answered, Lists, PutIf};
 use closure::Concept;
 use closure::Statement;
 use closure::Store;
+use field::Table;
 use reason::Lines;
-use sheet::Table;
 
 // The next statement of a sheet: whether there is one, the number of its line, the place past that line, and the statement.
 pub struct StatementLine {

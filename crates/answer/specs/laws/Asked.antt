@@ -13,18 +13,18 @@ use Rattle.text.specs.Split.{fieldFrom, fields, partsFrom, pastField}
 use Rattle.text.specs.Text.{decimal}
 use Rattle.text.specs.laws.Bytes.{same-all, same-true}
 use Rattle.text.specs.laws.Split.{fields-next, fields-none, parts-all}
-use Rattle.sheet.specs.declared.Form.{Form}
-use Rattle.sheet.specs.declared.Form.the-variants as form
-use Rattle.sheet.specs.declared.StatementWord.{StatementWord}
+use Rattle.field.specs.declared.Form.{Form}
+use Rattle.field.specs.declared.Form.the-variants as form
+use Rattle.field.specs.declared.StatementWord.{StatementWord}
 use Rattle.sheet.specs.declared.RuleLine.{RuleLine}
-use Rattle.sheet.specs.declared.Table.{Table}
-use Rattle.sheet.specs.Fault.{lineFault}
-use Rattle.sheet.specs.Names.{Names}
-use Rattle.sheet.specs.Read.{at, itemOf}
+use Rattle.field.specs.declared.Table.{Table}
+use Rattle.line.specs.Fault.{lineFault}
+use Rattle.field.specs.Names.{Names}
+use Rattle.field.specs.Words.{at, Field, bodyOf, formOf}
+use Rattle.saying.specs.Read.{itemOf}
 use Rattle.sheet.specs.Said.{Said, SheetRule, outcome}
 use Rattle.sheet.specs.Said.Outcome.{accepted}
-use Rattle.sheet.specs.Table.{namesOf}
-use Rattle.sheet.specs.Words.{Field, bodyOf, formOf}
+use Rattle.field.specs.Table.{namesOf}
 use Rattle.sheet.specs.Pass.{foundRule}
 use Rattle.sheet.specs.laws.Count.{Turn, turn-rules}
 use Rattle.why.specs.declared.Sides.{Sides}

@@ -15,17 +15,18 @@ use Rattle.closure.specs.Cell.{Cell, cellOf}
 use Rattle.closure.specs.Cell.Cell.{In}
 use Rattle.closure.specs.Layout.{ClosedStore, Holds, width}
 use Rattle.sheet.specs.declared.Ended.{Ended}
-use Rattle.sheet.specs.declared.Form.the-variants as form
-use Rattle.sheet.specs.declared.StatementWord.{StatementWord}
-use Rattle.sheet.specs.declared.Table.{Table}
-use Rattle.sheet.specs.Names.{Names, countsOf}
+use Rattle.field.specs.declared.Form.the-variants as form
+use Rattle.field.specs.declared.StatementWord.{StatementWord}
+use Rattle.field.specs.declared.Table.{Table}
+use Rattle.field.specs.Names.{Names, countsOf}
 use Rattle.sheet.specs.Pass.{Judges}
 use Rattle.sheet.specs.Promise.{refusedText}
-use Rattle.sheet.specs.Said.{Said, SheetStatement, outcome, statementOf}
+use Rattle.sheet.specs.Said.{Said, SheetStatement, outcome}
+use Rattle.saying.specs.Read.{statementOf}
 use Rattle.sheet.specs.Said.Outcome.{accepted}
 use Rattle.sheet.specs.Stands.{Opens}
-use Rattle.sheet.specs.Table.{namesOf}
-use Rattle.sheet.specs.Words.{bodyOf}
+use Rattle.field.specs.Table.{namesOf}
+use Rattle.field.specs.Words.{bodyOf}
 use Rattle.sheet.specs.laws.Count.{opens-held, opens-outcome}
 use Rattle.sheet.specs.laws.Pass.{saidOf}
 use Rattle.sheet.specs.laws.Stands.{Places}

@@ -14,12 +14,12 @@ use Rattle.text.specs.Split.{endOf, fields, lines, partsFrom, split}
 use Rattle.text.specs.Text.{Wrote}
 use Rattle.text.specs.laws.Split.{end-le, parts-all, parts-next, parts-none}
 use Rattle.text.specs.laws.Text.{wrote-none, wrote-then}
-use Rattle.sheet.specs.declared.Form.{Form}
-use Rattle.sheet.specs.declared.Form.the-variants as form
-use Rattle.sheet.specs.Fault.{none, sheetLimit}
+use Rattle.field.specs.declared.Form.{Form}
+use Rattle.field.specs.declared.Form.the-variants as form
+use Rattle.line.specs.Fault.{none, sheetLimit}
 use Rattle.sheet.specs.Said.{Outcome, Said, SheetStatement, lineSaid, nothing, outcome, outcomeFrom, saying}
 use Rattle.sheet.specs.Said.Outcome.{accepted}
-use Rattle.sheet.specs.Words.{Field, bodyOf, formOf, lineForm}
+use Rattle.field.specs.Words.{Field, bodyOf, formOf, lineForm}
 use Rattle.sheet.specs.laws.Pass.{accepted-start, accepted-step, saidOf}
 use Rattle.why.specs.Listed.{linesOf}
 use Rattle.why.specs.laws.Listed.{lines-more}

@@ -15,11 +15,11 @@ use Rattle.closure.specs.Cell.{Cell}
 use Rattle.rule.specs.declared.Finding.{Finding}
 use Rattle.rule.specs.declared.Rule.{Rule}
 use Rattle.rule.specs.Findings.{Findings}
-use Rattle.sheet.specs.Names.{Names}
+use Rattle.field.specs.Names.{Names}
 use Rattle.sheet.specs.Promise.{findingText, findingsText}
 use Rattle.sheet.specs.Said.{Said}
-use Rattle.sheet.specs.Table.{entered, nameAt}
-use Rattle.sheet.specs.laws.Tag.{tag-none, tagged-own, tagged-short}
+use Rattle.field.specs.Table.{entered, nameAt}
+use Rattle.field.specs.laws.Tag.{tag-none, tagged-own, tagged-short}
 use Rattle.report.specs.Lines.{lineOf, lineText, linesText}
 
 -- ---- names

@@ -11,14 +11,14 @@ use Rattle.rule.specs.declared.Finding.{Finding}
 use Rattle.rule.specs.Findings.{Findings}
 use Rattle.text.specs.Text.{Wrote}
 use Rattle.text.specs.laws.Text.{wrote-none, wrote-then}
-use Rattle.sheet.specs.declared.Table.{Table}
-use Rattle.sheet.specs.Names.{countsOf}
+use Rattle.field.specs.declared.Table.{Table}
+use Rattle.field.specs.Names.{countsOf}
 use Rattle.sheet.specs.Promise.{FindingsFrom, Held, Prints, findingsText, printLimit, totalText}
 use Rattle.sheet.specs.Promise.FindingsFrom.{none, more}
 use Rattle.sheet.specs.Promise.Prints.{accepted}
 use Rattle.sheet.specs.Said.{Said, SheetRule, outcome}
-use Rattle.sheet.specs.Table.{Roomy, namesOf}
-use Rattle.sheet.specs.laws.Names.{entered-length}
+use Rattle.field.specs.Table.{Roomy, namesOf}
+use Rattle.field.specs.laws.Names.{entered-length}
 use Rattle.sheet.specs.Said.Outcome.{accepted as acceptedSheet}
 use Rattle.report.specs.declared.Tally.{Tally}
 use Rattle.report.specs.Lines.{Printed, Tallied, lineOf, linesText}

@@ -16,7 +16,7 @@ use Rattle.rule.specs.declared.Rule.{Rule}
 use Rattle.rule.specs.Findings.{Findings}
 use Rattle.rule.specs.Search.{Starts}
 use Rattle.text.specs.Text.{Wrote}
-use Rattle.sheet.specs.Names.{Names}
+use Rattle.field.specs.Names.{Names}
 use Rattle.report.specs.declared.Tally.{Tally}
 use Rattle.sheet.specs.Pass.{countedIn}
 use Rattle.report.specs.Lines.{RuleLines, Tallied, findingBound, linesText}

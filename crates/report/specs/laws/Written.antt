@@ -12,7 +12,7 @@ use Rattle.rule.specs.Search.{Coming, Stepped}
 use Rattle.rule.specs.laws.Search.{coming-first}
 use Rattle.text.specs.Text.{Wrote}
 use Rattle.text.specs.laws.Text.{wrote-none, wrote-then}
-use Rattle.sheet.specs.Names.{Names}
+use Rattle.field.specs.Names.{Names}
 use Rattle.report.specs.Lines.{RuleLines, lineText, linesText}
 use Rattle.report.specs.laws.Lines.{lines-append}
 

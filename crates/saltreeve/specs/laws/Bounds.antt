@@ -22,23 +22,24 @@ use Rattle.rule.specs.Expr.Expr.{name}
 use Rattle.rule.specs.Form.{HeadFits, NodeWithin, nodeAt, nodeLimit}
 use Rattle.reason.specs.Part.{Part}
 use Rattle.reason.specs.Part.Part.{none as nonePart, keep, leave}
-use Rattle.sheet.specs.declared.Due.{Due}
-use Rattle.sheet.specs.declared.Due.the-variants as due
-use Rattle.sheet.specs.declared.Form.{Form}
-use Rattle.sheet.specs.declared.Form.the-variants as form
-use Rattle.sheet.specs.declared.Marks.{Marks}
+use Rattle.field.specs.declared.Due.{Due}
+use Rattle.field.specs.declared.Due.the-variants as due
+use Rattle.field.specs.declared.Form.{Form}
+use Rattle.field.specs.declared.Form.the-variants as form
+use Rattle.line.specs.declared.Marks.{Marks}
 use Rattle.sheet.specs.declared.Reading.the-variants as reading
-use Rattle.sheet.specs.Due.{dues, fits, lineupOf, next}
-use Rattle.sheet.specs.Fault.{ended, fieldsFault, formFault, full, header, headerFault, lineFault, lineLimit, none, sheetLimit, unknown}
-use Rattle.sheet.specs.Names.{Names, countsOf, declared, fault, fieldFault, fieldFaults, isCount, lowerFault, nameFault, newFault, nodesIn, plain, reserved}
+use Rattle.field.specs.Due.{dues, fits, lineupOf, next}
+use Rattle.line.specs.Fault.{ended, fieldsFault, formFault, full, header, headerFault, lineFault, lineLimit, none, sheetLimit, unknown}
+use Rattle.field.specs.Names.{Names, countsOf, declared, fault, fieldFault, fieldFaults, isCount, lowerFault, nameFault, newFault, nodesIn, plain, reserved}
 use Rattle.sheet.specs.Promise.{Reads}
 use Rattle.sheet.specs.Promise.Reads.{wrong-size, refused as refusedRead}
-use Rattle.sheet.specs.Read.{at, ruleOf}
+use Rattle.field.specs.Words.{at, Field, bodyOf, formOf, sectionOf}
+use Rattle.saying.specs.Read.{ruleOf}
 use Rattle.sheet.specs.Said.{Said, SheetRule, SheetStatement, lineSaid, marksOf, nothing, outcome, outcomeFrom, outcomeOf, saying}
 use Rattle.sheet.specs.Said.Outcome.{accepted, refused}
-use Rattle.sheet.specs.Words.{Field, bodyOf, formOf, sectionOf}
-use Rattle.sheet.specs.laws.Accepted.{Accepted, concept-new, line-accepted, right-first}
-use Rattle.sheet.specs.laws.Judged.{Good, rule-good}
+use Rattle.line.specs.laws.Accepted.{Accepted, line-accepted}
+use Rattle.field.specs.laws.Right.{concept-new, right-first}
+use Rattle.saying.specs.laws.Judged.{Good, rule-good}
 use Rattle.sheet.specs.laws.Pass.{accepted-start, accepted-step, not-both, saidOf}
 use Rattle.why.specs.declared.Explained.{Explained}
 use Rattle.why.specs.declared.FindingExplained.{FindingExplained}

@@ -16,13 +16,13 @@ use Rattle.rule.specs.declared.Rule.{Rule}
 use Rattle.rule.specs.Findings.{Findings}
 use Rattle.rule.specs.Search.{Starts}
 use Rattle.sheet.specs.declared.Ended.{Ended}
-use Rattle.sheet.specs.declared.Marks.{Marks}
+use Rattle.line.specs.declared.Marks.{Marks}
 use Rattle.sheet.specs.declared.Reading.{Reading}
 use Rattle.sheet.specs.declared.Reading.the-variants as reading
 use Rattle.sheet.specs.declared.RuleLine.{RuleLine}
-use Rattle.sheet.specs.declared.Table.{Table}
+use Rattle.field.specs.declared.Table.{Table}
 use Rattle.sheet.specs.declared.Whole.{Whole}
-use Rattle.sheet.specs.Names.{countsOf}
+use Rattle.field.specs.Names.{countsOf}
 use Rattle.sheet.specs.Pass.{Accepts, Counted, Judges, Next, NextRule, Opened, Passing, Paused, Totalled, Wholly, countedIn, foundRule}
 use Rattle.sheet.specs.Promise.{FindingsFrom, FindingsIn, Held, Leaves, Reads}
 use Rattle.sheet.specs.Promise.FindingsFrom.{none, more}
@@ -30,7 +30,7 @@ use Rattle.sheet.specs.Promise.Reads.{wrong-size, refused as refusedRead
 use Rattle.sheet.specs.Said.{Outcome, Said, SheetRule, marksOf, outcome}
 use Rattle.sheet.specs.Said.Outcome.{accepted, refused}
 use Rattle.sheet.specs.Stands.{Opens}
-use Rattle.sheet.specs.Table.{Roomy, namesOf}
+use Rattle.field.specs.Table.{Roomy, namesOf}
 use Rattle.sheet.specs.laws.Few.{few-findings}
 use Rattle.sheet.specs.laws.Pass.{not-both, passing-rest, saidOf}
 use Rattle.sheet.specs.laws.Stands.{Places, counts-of}

@@ -16,8 +16,8 @@ use Rattle.closure.specs.Promise.{Keeps}
 use Rattle.closure.specs.laws.Refusals.{keeps-unique}
 use Rattle.sheet.specs.declared.Reading.{Reading}
 use Rattle.sheet.specs.Demand3.{SameStatements, SheetDemand3}
-use Rattle.sheet.specs.Fault.{begun}
-use Rattle.sheet.specs.Names.{countsOf}
+use Rattle.line.specs.Fault.{begun}
+use Rattle.field.specs.Names.{countsOf}
 use Rattle.sheet.specs.Promise.{Held, Leaves, Reads, Stopped}
 use Rattle.sheet.specs.Promise.Reads.{wrong-size, refused as refusedRead, accepted as acceptedRead}
 use Rattle.sheet.specs.Said.{Outcome, Said, marksOf, outcome, statementsOf}

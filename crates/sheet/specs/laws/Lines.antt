@@ -10,10 +10,10 @@ use Rattle.text.specs.Bytes.{partOf}
 use Rattle.text.specs.Split.{endOf, partsFrom}
 use Rattle.text.specs.laws.Split.{end-ge, end-le, parts-next, parts-none}
 use Rattle.sheet.specs.declared.Kept.{Kept}
-use Rattle.sheet.specs.Fault.{lineFault, sheetLimit}
+use Rattle.line.specs.Fault.{lineFault, sheetLimit}
 use Rattle.sheet.specs.Said.{Outcome, Said, lineSaid, marksOf, outcomeFrom}
 use Rattle.sheet.specs.Stands.{Ends, Stands, Takes}
-use Rattle.sheet.specs.Table.{namesOf}
+use Rattle.field.specs.Table.{namesOf}
 
 -- the reading stands at a place of the sheet, at line n, where the outcome of all is o
 pub record Reads (sheet : List ℕ) (o : Outcome) (at n : ℕ) (k : Kept) (s : List ℕ) : Type 0 where

@@ -10,21 +10,21 @@ use lib.ListN.{length}
 use Rattle.text.specs.Bytes.{partOf, place, same}
 use Rattle.text.specs.Split.{endOf, fields, partsFrom, split}
 use Rattle.text.specs.laws.Split.{end-ge, end-le, parts-all, parts-next, parts-none}
-use Rattle.sheet.specs.declared.Form.{Form}
-use Rattle.sheet.specs.declared.Form.the-variants as form
+use Rattle.field.specs.declared.Form.{Form}
+use Rattle.field.specs.declared.Form.the-variants as form
 use Rattle.sheet.specs.declared.RuleLine.{RuleLine}
-use Rattle.sheet.specs.declared.RuleWord.{RuleWord}
-use Rattle.sheet.specs.declared.Table.{Table}
-use Rattle.sheet.specs.Fault.{headerFault, lineFault, none, sheetLimit}
-use Rattle.sheet.specs.Names.{Names}
-use Rattle.sheet.specs.Nodes.{RuleReady}
+use Rattle.field.specs.declared.RuleWord.{RuleWord}
+use Rattle.field.specs.declared.Table.{Table}
+use Rattle.line.specs.Fault.{headerFault, lineFault, none, sheetLimit}
+use Rattle.field.specs.Names.{Names}
+use Rattle.saying.specs.Nodes.{RuleReady}
 use Rattle.sheet.specs.Pass.{LineRule, NextRule, Passing, RuleIfReady, foundRule}
-use Rattle.sheet.specs.Read.{ruleOf}
+use Rattle.saying.specs.Read.{ruleOf}
 use Rattle.sheet.specs.Said.{Outcome, Said, SheetRule, lineSaid, marksOf, nothing, outcome, outcomeFrom, outcomeOf, saying}
 use Rattle.sheet.specs.Said.Outcome.{accepted, refused}
-use Rattle.sheet.specs.Table.{namesOf}
-use Rattle.sheet.specs.Words.{Field, bodyOf, formOf, lineForm}
-use Rattle.sheet.specs.laws.Accepted.{line-accepted}
+use Rattle.field.specs.Table.{namesOf}
+use Rattle.field.specs.Words.{Field, bodyOf, formOf, lineForm}
+use Rattle.line.specs.laws.Accepted.{line-accepted}
 use Rattle.sheet.specs.laws.Settled.{rule-begun, sheet-settled}
 
 -- what was said up to the end

@@ -8,13 +8,13 @@ use Rattle.text.specs.Bytes.{bytes, every, lower, place, same}
 use Rattle.text.specs.Date.{dated, dateShaped, digit, twoDigits}
 use Rattle.text.specs.Name.{isName, lineByte, nameByte}
 use Rattle.text.specs.Split.{split}
-use Rattle.sheet.specs.Due.{fits}
-use Rattle.sheet.specs.Fault.{fieldsFault, formFault, headerFault, lineFault}
-use Rattle.sheet.specs.Names.{fieldFault, fieldFaults, lowerFault, nameFault, newFault, nodesIn}
-use Rattle.sheet.specs.Read.{nodesAt, read, size}
+use Rattle.field.specs.Due.{fits}
+use Rattle.line.specs.Fault.{fieldsFault, formFault, headerFault, lineFault}
+use Rattle.field.specs.Names.{fieldFault, fieldFaults, lowerFault, nameFault, newFault, nodesIn}
+use Rattle.saying.specs.Read.{nodesAt, read, size}
 use Rattle.sheet.specs.Said.{Outcome, lineSaid, outcome, outcomeFrom}
 use Rattle.sheet.specs.Said.Outcome.{accepted, refused}
-use Rattle.sheet.specs.Words.{lineForm, operatorOf, ruleForm}
+use Rattle.field.specs.Words.{lineForm, operatorOf, ruleForm}
 
 -- 100 times the line and the number; of an accepted sheet the statements and rules
 abbrev ends : Outcome → ℕ

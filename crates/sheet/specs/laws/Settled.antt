@@ -8,14 +8,14 @@ use borrow.Author.Tests.{eqb-true, lt-ltb}
 use lib.Dec.{eqb}
 use lib.ListN.{length, length-append}
 use Rattle.text.specs.Split.{fields}
-use Rattle.sheet.specs.declared.Form.{Form}
-use Rattle.sheet.specs.declared.Form.the-variants as form
-use Rattle.sheet.specs.declared.RuleWord.{RuleWord}
-use Rattle.sheet.specs.Fault.{begun, ended, lineFault, none}
+use Rattle.field.specs.declared.Form.{Form}
+use Rattle.field.specs.declared.Form.the-variants as form
+use Rattle.field.specs.declared.RuleWord.{RuleWord}
+use Rattle.line.specs.Fault.{begun, ended, lineFault, none}
 use Rattle.sheet.specs.Said.{Outcome, Said, lineSaid, marksOf, outcomeFrom, saying}
 use Rattle.sheet.specs.Said.Outcome.{accepted, refused}
-use Rattle.sheet.specs.Words.{Field, bodyOf, formOf, sectionOf}
-use Rattle.sheet.specs.laws.Accepted.{line-accepted}
+use Rattle.field.specs.Words.{Field, bodyOf, formOf, sectionOf}
+use Rattle.line.specs.laws.Accepted.{line-accepted}
 
 none-last : {A : Type 0} (xs : List A) (y : A) → none (xs ++ y ∷ []) ≡ false
 none-last [] y = refl

@@ -14,13 +14,13 @@ use Rattle.text.specs.laws.Split.{parts-all, parts-next}
 use Rattle.closure.specs.Layout.{size, width}
 use Rattle.sheet.specs.declared.Ended.{Ended}
 use Rattle.sheet.specs.declared.Kept.{Kept}
-use Rattle.sheet.specs.declared.Marks.{Marks}
-use Rattle.sheet.specs.Fault.{begun, headerFault, sheetLimit}
+use Rattle.line.specs.declared.Marks.{Marks}
+use Rattle.line.specs.Fault.{begun, headerFault, sheetLimit}
 use Rattle.sheet.specs.Promise.{Leaves, Stopped}
 use Rattle.sheet.specs.Said.{Said, marksOf, nothing, outcome, outcomeFrom, outcomeOf}
 use Rattle.sheet.specs.Said.Outcome.{refused}
 use Rattle.sheet.specs.Stands.{Begins, Ends, Opens, Stands}
-use Rattle.sheet.specs.Table.{Roomy, namesOf}
+use Rattle.field.specs.Table.{Roomy, namesOf}
 use Rattle.sheet.specs.laws.Stands.{Places, begun-keeps, counts-of}
 
 -- ---- how it begins

@@ -27,20 +27,20 @@ use Rattle.closure.specs.Promise.Makes.{refused as make-refused, made}
 use Rattle.closure.specs.Refusal.{FreshFault, Sized}
 use Rattle.closure.specs.Refusal.FreshFault.{wrong-size}
 use Rattle.closure.specs.laws.Least.{follows-all}
-use Rattle.sheet.specs.declared.Form.the-variants as form
-use Rattle.sheet.specs.declared.Marks.{Marks}
-use Rattle.sheet.specs.declared.RuleWord.{RuleWord}
-use Rattle.sheet.specs.declared.StatementWord.{StatementWord}
-use Rattle.sheet.specs.declared.Table.{Table}
-use Rattle.sheet.specs.Fault.{begun, none, ruleLimit}
-use Rattle.sheet.specs.Names.{countsOf}
+use Rattle.field.specs.declared.Form.the-variants as form
+use Rattle.line.specs.declared.Marks.{Marks}
+use Rattle.field.specs.declared.RuleWord.{RuleWord}
+use Rattle.field.specs.declared.StatementWord.{StatementWord}
+use Rattle.field.specs.declared.Table.{Table}
+use Rattle.line.specs.Fault.{begun, none, ruleLimit}
+use Rattle.field.specs.Names.{countsOf}
 use Rattle.sheet.specs.Promise.{Stopped}
-use Rattle.sheet.specs.Read.{at}
-use Rattle.sheet.specs.Said.{Said, SheetStatement, saying, statementOf, statementsOf}
+use Rattle.field.specs.Words.{at, Field}
+use Rattle.sheet.specs.Said.{Said, SheetStatement, saying, statementsOf}
+use Rattle.saying.specs.Read.{statementOf}
 use Rattle.sheet.specs.Stands.{Begins, Stands}
-use Rattle.sheet.specs.Table.{Roomy, entered, nameAt, namesOf, withConcept, withItem, withRole}
-use Rattle.sheet.specs.Words.{Field}
-use Rattle.sheet.specs.laws.Names.{entered-length}
+use Rattle.field.specs.Table.{Roomy, entered, nameAt, namesOf, withConcept, withItem, withRole}
+use Rattle.field.specs.laws.Names.{entered-length}
 
 -- ---- the store
 

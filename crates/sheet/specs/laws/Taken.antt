@@ -12,26 +12,28 @@ use Rattle.closure.specs.Cell.{Within, cellOf}
 use Rattle.closure.specs.Layout.{conceptLimit, itemLimit, roleLimit, width}
 use Rattle.closure.specs.declared.Counts.{Counts}
 use Rattle.text.specs.laws.Name.{name-bounds}
-use Rattle.sheet.specs.declared.Due.{Due}
-use Rattle.sheet.specs.declared.Due.the-variants as due
-use Rattle.sheet.specs.declared.Form.{Form}
-use Rattle.sheet.specs.declared.Form.the-variants as form
-use Rattle.sheet.specs.declared.Marks.{Marks}
-use Rattle.sheet.specs.declared.RuleWord.{RuleWord}
-use Rattle.sheet.specs.declared.StatementWord.{StatementWord}
-use Rattle.sheet.specs.declared.Table.{Table}
-use Rattle.sheet.specs.Due.{dues, isExpr, lineupOf}
-use Rattle.sheet.specs.Fault.{begun, lineLimit, none, ruleLimit, sheetLimit}
-use Rattle.sheet.specs.Names.{fieldFault}
-use Rattle.sheet.specs.Read.{at}
-use Rattle.sheet.specs.Said.{Said, lineSaid, saying, statementOf}
+use Rattle.field.specs.declared.Due.{Due}
+use Rattle.field.specs.declared.Due.the-variants as due
+use Rattle.field.specs.declared.Form.{Form}
+use Rattle.field.specs.declared.Form.the-variants as form
+use Rattle.line.specs.declared.Marks.{Marks}
+use Rattle.field.specs.declared.RuleWord.{RuleWord}
+use Rattle.field.specs.declared.StatementWord.{StatementWord}
+use Rattle.field.specs.declared.Table.{Table}
+use Rattle.field.specs.Due.{dues, isExpr, lineupOf}
+use Rattle.line.specs.Fault.{begun, lineLimit, none, ruleLimit, sheetLimit}
+use Rattle.field.specs.Names.{fieldFault}
+use Rattle.field.specs.Words.{at, bodyOf, formOf}
+use Rattle.sheet.specs.Said.{Said, lineSaid, saying}
+use Rattle.saying.specs.Read.{statementOf}
 use Rattle.sheet.specs.Stands.{Begins, Stands, Takes}
-use Rattle.sheet.specs.Table.{Roomy, nameAt, namesOf, tagOf, withConcept, withItem, withRole}
-use Rattle.sheet.specs.Words.{bodyOf, formOf}
-use Rattle.sheet.specs.laws.Accepted.{Accepted, concept-new, item-new, line-accepted, right-first, role-new, statement-within}
-use Rattle.sheet.specs.laws.Entry.{entry-name, name-inside}
-use Rattle.sheet.specs.laws.Fields.{nth-first}
-use Rattle.sheet.specs.laws.Names.{entered-length}
+use Rattle.field.specs.Table.{Roomy, nameAt, namesOf, tagOf, withConcept, withItem, withRole}
+use Rattle.line.specs.laws.Accepted.{Accepted, line-accepted}
+use Rattle.field.specs.laws.Right.{concept-new, item-new, right-first, role-new}
+use Rattle.saying.specs.laws.Stated.{statement-within}
+use Rattle.field.specs.laws.Entry.{entry-name, name-inside}
+use Rattle.saying.specs.laws.Fields.{nth-first}
+use Rattle.field.specs.laws.Names.{entered-length}
 use Rattle.sheet.specs.laws.Stands.{Places, counts-of, stands-concept, stands-item, stands-role, stands-rule}
 
 -- an empty line says nothing

@@ -13,8 +13,8 @@ use Rattle.rule.specs.declared.Finding.{Finding}
 use Rattle.rule.specs.laws.Findings.{findings-unique}
 use Rattle.sheet.specs.declared.Reading.{Reading}
 use Rattle.sheet.specs.declared.Reading.the-variants as reading
-use Rattle.sheet.specs.Fault.{begun}
-use Rattle.sheet.specs.Names.{countsOf}
+use Rattle.line.specs.Fault.{begun}
+use Rattle.field.specs.Names.{countsOf}
 use Rattle.sheet.specs.Promise.{FindingsFrom, FindingsIn, Held, Leaves, Prints, Reads, Stopped, findingsText, printLimit, refusedText, totalText}
 use Rattle.sheet.specs.Promise.FindingsFrom.{none, more}
 use Rattle.sheet.specs.Promise.Prints.{refused as refusedPrint, accepted as acceptedPrint}

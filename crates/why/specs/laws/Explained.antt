@@ -7,8 +7,8 @@ use Rattle.closure.specs.declared.Counts.{Counts}
 use Rattle.closure.specs.Cell.{Cell}
 use Rattle.closure.specs.Layout.{Holds, size, width}
 use Rattle.sheet.specs.declared.Ended.{Ended}
-use Rattle.sheet.specs.declared.Table.{Table}
-use Rattle.sheet.specs.Names.{countsOf}
+use Rattle.field.specs.declared.Table.{Table}
+use Rattle.field.specs.Names.{countsOf}
 use Rattle.sheet.specs.Pass.{Accepts}
 use Rattle.sheet.specs.Said.{Said}
 use Rattle.sheet.specs.Stands.{Opens}

@@ -8,7 +8,7 @@ use Rattle.closure.specs.declared.Counts.{Counts}
 use Rattle.closure.specs.Cell.Cell.{In}
 use Rattle.closure.specs.Layout.{Holds, size, width}
 use Rattle.sheet.specs.declared.Ended.{Ended}
-use Rattle.sheet.specs.Names.{countsOf}
+use Rattle.field.specs.Names.{countsOf}
 use Rattle.sheet.specs.Stands.{Opens}
 use Rattle.sheet.specs.laws.Count.{opens-held, opens-outcome, whole-refused}
 use Rattle.sheet.specs.laws.Stands.{Places}

@@ -8,14 +8,15 @@ use lib.ListN.{length, length-append}
 use Rattle.text.specs.Bytes.{partOf}
 use Rattle.text.specs.Split.{endOf, fields, partsFrom, split}
 use Rattle.text.specs.laws.Split.{parts-all, parts-next}
-use Rattle.sheet.specs.declared.Form.{Form}
-use Rattle.sheet.specs.declared.Form.the-variants as form
-use Rattle.sheet.specs.declared.Table.{Table}
-use Rattle.sheet.specs.Fault.{lineFault}
-use Rattle.sheet.specs.Said.{Outcome, Said, lineSaid, marksOf, nothing, outcome, outcomeFrom, saying, statementOf, SheetStatement}
+use Rattle.field.specs.declared.Form.{Form}
+use Rattle.field.specs.declared.Form.the-variants as form
+use Rattle.field.specs.declared.Table.{Table}
+use Rattle.line.specs.Fault.{lineFault}
+use Rattle.sheet.specs.Said.{Outcome, Said, lineSaid, marksOf, nothing, outcome, outcomeFrom, saying, SheetStatement}
+use Rattle.saying.specs.Read.{statementOf}
 use Rattle.sheet.specs.Said.Outcome.{accepted}
-use Rattle.sheet.specs.Words.{bodyOf, formOf}
-use Rattle.sheet.specs.laws.Accepted.{line-accepted}
+use Rattle.field.specs.Words.{bodyOf, formOf}
+use Rattle.line.specs.laws.Accepted.{line-accepted}
 use Rattle.sheet.specs.laws.Pass.{accepted-start, accepted-step, saidOf}
 use Rattle.why.specs.declared.StatementLine.{StatementLine}
 use Rattle.why.specs.Gather.{statementLimit}

@@ -15,10 +15,10 @@ use Rattle.closure.specs.declared.Statement.{Statement}
 use Rattle.closure.specs.Cell.{Cell, Within, cellOf}
 use Rattle.closure.specs.Lines.{Stated}
 use Rattle.closure.specs.Lines.Stated.{stated}
-use Rattle.sheet.specs.declared.Table.{Table}
-use Rattle.sheet.specs.Names.{Names, countsOf}
+use Rattle.field.specs.declared.Table.{Table}
+use Rattle.field.specs.Names.{Names, countsOf}
 use Rattle.sheet.specs.Said.{SheetStatement, statementsOf}
-use Rattle.sheet.specs.Table.{Roomy, namesOf}
+use Rattle.field.specs.Table.{Roomy, namesOf}
 use Rattle.sheet.specs.laws.Stands.{Places, counts-of}
 use Rattle.reason.specs.Code.{AllWithin, Coded, cellAt}
 use Rattle.reason.specs.Code.Coded.{coded}

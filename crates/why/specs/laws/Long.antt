@@ -9,15 +9,15 @@ use lib.ListN.{length, drop}
 use Rattle.text.specs.Bytes.{bytes, place, same}
 use Rattle.text.specs.Split.{fields, onto, split}
 use Rattle.text.specs.laws.Bytes.{same-true}
-use Rattle.sheet.specs.declared.Due.{Due}
-use Rattle.sheet.specs.declared.Form.{Form}
-use Rattle.sheet.specs.declared.Form.the-variants as form
-use Rattle.sheet.specs.declared.StatementWord.{StatementWord}
-use Rattle.sheet.specs.declared.StatementWord.the-variants as statement
-use Rattle.sheet.specs.Due.{dues, fits, lineupOf}
-use Rattle.sheet.specs.Names.{Names}
-use Rattle.sheet.specs.Words.{Field, bodyOf, formOf, isRule, lineForm, ruleForm}
-use Rattle.sheet.specs.laws.Accepted.{Right, right-first}
+use Rattle.field.specs.declared.Due.{Due}
+use Rattle.field.specs.declared.Form.{Form}
+use Rattle.field.specs.declared.Form.the-variants as form
+use Rattle.field.specs.declared.StatementWord.{StatementWord}
+use Rattle.field.specs.declared.StatementWord.the-variants as statement
+use Rattle.field.specs.Due.{dues, fits, lineupOf}
+use Rattle.field.specs.Names.{Names}
+use Rattle.field.specs.Words.{Field, bodyOf, formOf, isRule, lineForm, ruleForm}
+use Rattle.field.specs.laws.Right.{Right, right-first}
 
 -- ---- the parts of a line make up its length
 

@@ -11,12 +11,13 @@ use Rattle.logic.specs.laws.Number.{one-cases, one-none}
 use Rattle.text.specs.Split.{fields}
 use Rattle.closure.specs.declared.Counts.{Counts}
 use Rattle.closure.specs.Cell.{Cell, Follows, Nothing}
-use Rattle.sheet.specs.declared.Form.{Form}
-use Rattle.sheet.specs.declared.Form.the-variants as form
-use Rattle.sheet.specs.Fault.{none as empty}
-use Rattle.sheet.specs.Said.{Outcome, Said, SheetStatement, lineSaid, nothing, outcome, outcomeFrom, saying, statementOf}
+use Rattle.field.specs.declared.Form.{Form}
+use Rattle.field.specs.declared.Form.the-variants as form
+use Rattle.line.specs.Fault.{none as empty}
+use Rattle.sheet.specs.Said.{Outcome, Said, SheetStatement, lineSaid, nothing, outcome, outcomeFrom, saying}
+use Rattle.saying.specs.Read.{statementOf}
 use Rattle.sheet.specs.Said.Outcome.{accepted}
-use Rattle.sheet.specs.Words.{bodyOf, formOf}
+use Rattle.field.specs.Words.{bodyOf, formOf}
 use Rattle.sheet.specs.laws.Pass.{accepted-start, accepted-step, saidOf}
 use Rattle.why.specs.Listed.{linesOf}
 use Rattle.reason.specs.Part.{Part}

@@ -9,7 +9,7 @@ use Rattle.closure.specs.Layout.{Holds, size, width}
 use Rattle.closure.specs.laws.Refusals.{keeps-unique}
 use Rattle.sheet.specs.declared.Reading.{Reading}
 use Rattle.sheet.specs.declared.Reading.the-variants as reading
-use Rattle.sheet.specs.Names.{countsOf}
+use Rattle.field.specs.Names.{countsOf}
 use Rattle.sheet.specs.Promise.{Held, Reads}
 use Rattle.sheet.specs.Promise.Reads.{wrong-size, refused as refusedRead, accepted as acceptedRead}
 use Rattle.sheet.specs.Said.{Said, SheetStatement, outcome}

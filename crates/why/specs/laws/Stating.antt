@@ -9,18 +9,21 @@ use Rattle.text.specs.Bytes.{partOf, place, same}
 use Rattle.text.specs.Split.{endOf, fields, partsFrom, split}
 use Rattle.text.specs.laws.Split.{end-ge, end-le, parts-next, parts-none}
 use Rattle.closure.specs.Cell.{Within, cellOf}
-use Rattle.sheet.specs.declared.Form.{Form}
-use Rattle.sheet.specs.declared.Form.the-variants as form
-use Rattle.sheet.specs.declared.StatementWord.{StatementWord}
-use Rattle.sheet.specs.declared.Table.{Table}
-use Rattle.sheet.specs.Due.{dues, lineupOf}
-use Rattle.sheet.specs.Fault.{begun, lineFault, none}
-use Rattle.sheet.specs.Names.{Names, countsOf}
-use Rattle.sheet.specs.Said.{Outcome, Said, SheetStatement, lineSaid, marksOf, nothing, outcome, outcomeFrom, saying, statementOf}
+use Rattle.field.specs.declared.Form.{Form}
+use Rattle.field.specs.declared.Form.the-variants as form
+use Rattle.field.specs.declared.StatementWord.{StatementWord}
+use Rattle.field.specs.declared.Table.{Table}
+use Rattle.field.specs.Due.{dues, lineupOf}
+use Rattle.line.specs.Fault.{begun, lineFault, none}
+use Rattle.field.specs.Names.{Names, countsOf}
+use Rattle.sheet.specs.Said.{Outcome, Said, SheetStatement, lineSaid, marksOf, nothing, outcome, outcomeFrom, saying}
+use Rattle.saying.specs.Read.{statementOf}
 use Rattle.sheet.specs.Said.Outcome.{accepted}
-use Rattle.sheet.specs.Table.{namesOf}
-use Rattle.sheet.specs.Words.{Field, bodyOf, formOf, lineForm}
-use Rattle.sheet.specs.laws.Accepted.{Right, line-accepted, statement-within}
+use Rattle.field.specs.Table.{namesOf}
+use Rattle.field.specs.Words.{Field, bodyOf, formOf, lineForm}
+use Rattle.field.specs.laws.Right.{Right}
+use Rattle.line.specs.laws.Accepted.{line-accepted}
+use Rattle.saying.specs.laws.Stated.{statement-within}
 use Rattle.sheet.specs.laws.Pass.{accepted-start, accepted-step, saidOf}
 use Rattle.sheet.specs.laws.Settled.{sheet-settled}
 use Rattle.why.specs.declared.StatementLine.{StatementLine}

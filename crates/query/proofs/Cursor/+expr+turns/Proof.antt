@@ -6,8 +6,7 @@ use native.Mathlib.Omega.{arith}
 use borrow.Author.Needs.{needs}
 use borrow.Fn.Kinds.{In}
 use borrow.Fn.PlainCycle.{Measures, is, falls, and}
-use Rattle.query.specs.laws.Writing.{at-node, at-zero, roomy-as, written-as, top-done, name-room, name-done, not-room, not-inner, not-close, not-done, and-first, and-second, and-done, own-room, own-done, one-room, one-done}
-use Rattle.query.specs.laws.Writing.{least-none, least-few, least-turns, least-stride, least-pairs, least-done, turns-none, turns-room, turns-inner, turns-rest, turns-done}
+use Rattle.query.specs.laws.Writing.{at-node, at-zero, roomy-as, written-as, top-done, name-room, name-done, not-room, not-inner, not-close, not-done, and-first, and-second, and-done, own-room, own-done, one-room, one-done, least-none, least-few, least-turns, least-stride, least-pairs, least-done, turns-none, turns-room, turns-inner, turns-rest, turns-done}
 use Rattle.query.proofs.Cursor.expr.Reads as expr
 use Rattle.query.proofs.Cursor.expr.Kinds as expr-kinds
 use Rattle.query.proofs.Cursor.+expr+turns.Lts-expr as expr-lts

@@ -3,11 +3,11 @@ use mathlib.Core.Path.{_≡_, refl, ap, _∙_}
 use mathlib.Core.List.{List}
 use Prim.Native.Nat.{_+_, _*_, _-_, _≤_}
 use lib.ListN.{length}
-use Rattle.sheet.specs.Names.{countsOf}
+use Rattle.field.specs.Names.{countsOf}
 use Rattle.sheet.specs.Promise.{printLimit}
 use Rattle.sheet.specs.Said.{Said, SheetRule, outcome}
 use Rattle.sheet.specs.Said.Outcome.{accepted}
-use Rattle.sheet.specs.Table.{namesOf}
+use Rattle.field.specs.Table.{namesOf}
 use Rattle.sheet.specs.laws.Count.{Turn, turn-end, turn-next, turn-paused, turn-start}
 use Rattle.sheet.specs.laws.Few.{few-findings}
 use Rattle.sheet.specs.laws.Pass.{accepted-start}

@@ -2,7 +2,7 @@
 use mathlib.Core.Path.{sym, _∙_}
 use Rattle.closure.specs.Layout.{width}
 use Rattle.closure.specs.Refusal.{Sized}
-use Rattle.sheet.specs.Fault.{begun}
+use Rattle.line.specs.Fault.{begun}
 use Rattle.sheet.specs.laws.Stands.{begins-fresh, begins-same, makes-keeps}
 use borrow.Author.Needs.{needs}
 use Rattle.sheet.proofs.keeping.begin.Statement.{statement}

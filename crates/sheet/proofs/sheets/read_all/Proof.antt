@@ -2,7 +2,7 @@
 use native.Mathlib.Omega.{arith}
 use mathlib.Core.Path.{ap, _∙_}
 use Rattle.text.specs.laws.Split.{end-le}
-use Rattle.sheet.specs.Fault.{headerFault}
+use Rattle.line.specs.Fault.{headerFault}
 use Rattle.sheet.specs.laws.Sheets.{blank-stands, ends-header, header-on, header-stop}
 use borrow.Author.Needs.{needs}
 use Rattle.sheet.proofs.sheets.read_all.Statement.{statement}

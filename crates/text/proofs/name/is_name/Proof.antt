@@ -2,12 +2,11 @@
 use Rattle.text.proofs.name.is_name.Statement.{statement}
 use Rattle.text.proofs.name.is_name.Tie as tie
 use borrow.Author.Tests.{le-leb, lt-leb}
-use mathlib.Core.Path.{sym, _∙_}
+use mathlib.Core.Path.{sym, _∙_, _≡_, refl}
 use Rattle.text.specs.Bytes.{every}
 use Rattle.text.specs.Name.{isName, nameByte}
 use Rattle.text.specs.laws.Bytes.{every-go, every-stop, every-end}
 use Prim.Native.Nat.{_≤_, _-_}
-use mathlib.Core.Path.{_≡_, refl}
 use lib.ListN.{length, drop}
 use native.Mathlib.Omega.{arith}
 use borrow.Author.Needs.{needs}

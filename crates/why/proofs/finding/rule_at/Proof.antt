@@ -1,6 +1,6 @@
 -- `why::finding::rule_at` meets its contract. Assumes nothing.
 use mathlib.Core.Path.{sym, _∙_}
-use mathlib.Core.List.{List}
+use mathlib.Core.List.{List, [], _∷_}
 use Prim.Native.Nat.{_+_, _-_, _≤_}
 use native.Mathlib.Omega.{arith}
 use lib.ListN.{length, length-append}
@@ -9,7 +9,6 @@ use Rattle.sheet.specs.laws.Count.{Turn, turn-end, turn-next, turn-paused, turn
 use Rattle.sheet.specs.laws.Pass.{accepted-start}
 use Rattle.sheet.specs.Pass.{foundRule}
 use Rattle.why.specs.Asked.{Of}
-use mathlib.Core.List.{[], _∷_}
 use Rattle.why.proofs.finding.rule_at.Statement.{statement}
 use Rattle.why.proofs.finding.rule_at.Tie as tie
 

@@ -1,0 +1,79 @@
+-- The reader's own records of the declared names: places in the sheet.
+use mathlib.Core.Path.{_≡_}
+use mathlib.Core.Bool.{cond}
+use mathlib.Core.List.{List, [], _∷_, _++_, map}
+use Prim.Native.Nat.{ℕ, _+_, _-_, _*_, _/_, _%_, _≤_}
+use lib.Dec.{eqb}
+use lib.ListN.{length, getD, take, drop, set, replicate}
+use Rattle.text.specs.Bytes.{partOf, place as placeOf}
+use Rattle.closure.specs.Layout.{Fits, width}
+use Rattle.field.specs.declared.Due.{Due}
+use Rattle.field.specs.declared.Due.the-variants as due
+use Rattle.field.specs.declared.Lineup.{Lineup}
+use Rattle.field.specs.declared.Operator.{Operator}
+use Rattle.field.specs.declared.Operator.the-variants as operator
+use Rattle.field.specs.declared.Table.{Table}
+use Rattle.field.specs.Due.{dues, fits, isExpr, wanted}
+use Rattle.field.specs.Names.{Names, fieldFaults, nodesIn}
+
+-- the tag of a name: a number below 2,048 made of its last two bytes, by which most other names are told from it
+unfoldable pub tagOf : List ℕ → ℕ
+tagOf w = (getD w (length w - 1) 0 + 16 * getD w (length w - 2) 0) % 2048
+
+-- the bytes w under their own tag, and none under another
+unfoldable pub tagged : ℕ → List ℕ → List ℕ
+tagged k w = cond (eqb (tagOf w) k) w []
+
+-- the name of an entry, which has its tag, its place and its length
+abbrev pub nameAt : List ℕ → ℕ → List ℕ
+nameAt sheet p = tagged (p / 2097152) (partOf sheet (p / 32 % 65536) (p % 32))
+
+-- the names of the first n entries
+abbrev pub entered : List ℕ → ℕ → List ℕ → List (List ℕ)
+entered sheet n entries = map (nameAt sheet) (take n entries)
+
+-- the names of a table
+abbrev pub namesOf : List ℕ → Table → Names
+namesOf sheet t =
+    record {
+      concepts = entered sheet (t .counts .concepts) (t .concepts);
+      roles = entered sheet (t .counts .roles) (t .roles);
+      items = entered sheet (t .counts .items) (t .items);
+    }
+
+-- the table with one name more
+abbrev pub withConcept : Table → ℕ → Table
+withConcept t p =
+    record {
+      concepts = set (t .concepts) (t .counts .concepts) p;
+      roles = t .roles;
+      items = t .items;
+      counts = record { items = t .counts .items; concepts = t .counts .concepts + 1; roles = t .counts .roles };
+    }
+
+abbrev pub withRole : Table → ℕ → Table
+withRole t p =
+    record {
+      concepts = t .concepts;
+      roles = set (t .roles) (t .counts .roles) p;
+      items = t .items;
+      counts = record { items = t .counts .items; concepts = t .counts .concepts; roles = t .counts .roles + 1 };
+    }
+
+abbrev pub withItem : Table → ℕ → Table
+withItem t p =
+    record {
+      concepts = t .concepts;
+      roles = t .roles;
+      items = set (t .items) (t .counts .items) p;
+      counts = record { items = t .counts .items + 1; concepts = t .counts .concepts; roles = t .counts .roles };
+    }
+
+-- the place k of the name w among the names, of which there are n
+pub record Placed (w : List ℕ) (names : List (List ℕ)) (n k : ℕ) : Type 0 where
+  pub place : k ≡ placeOf w names
+  pub count : length names ≡ n
+
+-- a table with no more names than there is room for
+abbrev pub Roomy : Table → Type 0
+Roomy t = Fits width (t .counts)

@@ -1,0 +1,72 @@
+ghost use mathlib.Core.Path.{_≡_};
+ghost use Prim.Native.Nat.{_+_, _*_, _≤_, _<_};
+ghost use lib.ListN.{length};
+ghost use Rattle.text.specs.Split.{fieldFrom};
+ghost use Rattle.text.specs.Name.{nameLimit};
+ghost use Rattle.field.specs.Table.{tagOf, withConcept, withItem, withRole};
+use crate::Table;
+use closure::Counts;
+
+// The entry of the name in the field at a place of a line that starts at a place of the sheet.
+pub fn entry(start: usize, line: &[u8], at: usize) -> u32
+    requires { ⌜ (start ≤ 32768) × (at ≤ 1024) × (length (fieldFrom (now line) at) ≤ nameLimit) ⌝ }
+    ensures { λ r. ⌜ r ≡ tagOf (fieldFrom (now (line .entry)) at) * 2097152 + ((start + at) * 32 + length (fieldFrom (now (line .entry)) at)) ⌝ }
+{
+    let f = text::line::field(line, at);
+    let n = f.len();
+    let place = ((start + at) * 32 + n) as u32;
+    crate::names::tag(f) * 2097152 + place
+}
+
+// A table without names.
+pub fn empty() -> Table
+    ensures { λ r. ⌜ r .counts ≡ record { items = 0; concepts = 0; roles = 0 } ⌝ }
+{
+    let counts = Counts {
+        items: 0,
+        concepts: 0,
+        roles: 0,
+    };
+    Table {
+        concepts: [0; 32],
+        roles: [0; 16],
+        items: [0; 128],
+        counts,
+    }
+}
+
+// The table with one concept more.
+pub fn with_concept(t: Table, p: u32) -> Table
+    requires { ⌜ t .counts .concepts < 32 ⌝ }
+    ensures { λ r. ⌜ r ≡ withConcept t p ⌝ }
+{
+    let mut r = t;
+    let n = t.counts.concepts;
+    r.concepts[n] = p;
+    r.counts.concepts = n + 1;
+    r
+}
+
+// The table with one role more.
+pub fn with_role(t: Table, p: u32) -> Table
+    requires { ⌜ t .counts .roles < 16 ⌝ }
+    ensures { λ r. ⌜ r ≡ withRole t p ⌝ }
+{
+    let mut r = t;
+    let n = t.counts.roles;
+    r.roles[n] = p;
+    r.counts.roles = n + 1;
+    r
+}
+
+// The table with one item more.
+pub fn with_item(t: Table, p: u32) -> Table
+    requires { ⌜ t .counts .items < 128 ⌝ }
+    ensures { λ r. ⌜ r ≡ withItem t p ⌝ }
+{
+    let mut r = t;
+    let n = t.counts.items;
+    r.items[n] = p;
+    r.counts.items = n + 1;
+    r
+}

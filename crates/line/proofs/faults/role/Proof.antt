@@ -1,0 +1,21 @@
+-- `line::faults::role` meets its contract. Assumes nothing.
+use mathlib.Core.Path.{_∙_}
+use Rattle.field.specs.Table.{namesOf}
+use Rattle.field.specs.laws.Names.{role-name, old-at}
+use borrow.Author.Needs.{needs}
+use Rattle.line.proofs.faults.role.Statement.{statement}
+use Rattle.line.proofs.faults.role.Tie as tie
+
+role-requires : tie.Need-role-requires
+role-requires c κs = search needs
+
+old-name-requires : tie.Need-old-name-requires
+old-name-requires c κs = search needs
+
+returns : tie.Need-returns
+returns c =
+    let x = c .before .before .before .before .before .args in
+    c .old-name .ensures ∙ old-at _ _ _ _ (c .before .role .ensures) ∙ role-name (namesOf (x .sheet .now) (x .t)) (x .f .now)
+
+pub role-spec : {M : Type 1} → statement M
+role-spec = tie.close (tie.spec role-requires old-name-requires returns)

@@ -1,0 +1,48 @@
+// What is wrong with a line: the fields that are due in it, each field by itself, and the line as a whole.
+pub mod dues;
+pub mod faults;
+pub mod lines;
+pub mod walk;
+
+// What is due first in the middle of an expression, before some expressions.
+pub enum Lead {
+    None,
+    RoleUse,
+    AtLeast,
+    AtMost,
+    Item,
+}
+
+// What is still due in a line: the lead, so many expressions, and of the line-up what comes after its first so many.
+pub struct Pending {
+    pub lead: Lead,
+    pub exprs: usize,
+    pub own: usize,
+}
+
+// What all the fields of a line come to: whether they are exactly those that are due, the lowest number of refusal that applies to one of them or 0, and their nodes.
+pub struct Walked {
+    pub fits: bool,
+    pub fault: usize,
+    pub nodes: usize,
+}
+
+// How far a sheet has come: whether a statement was accepted, and how many rules.
+pub struct Marks {
+    pub stated: bool,
+    pub rules: usize,
+}
+
+// A sheet.
+pub struct Sheet {}
+
+impl Sheet {
+    // The most bytes of a sheet.
+    pub const BYTES: usize = 32768;
+    // The most bytes of a line, without its line feed.
+    pub const LINE: usize = 512;
+    // The most rules of a sheet.
+    pub const RULES: usize = 64;
+    // The most findings that are printed.
+    pub const PRINTED: usize = 200;
+}

@@ -1,0 +1,133 @@
+ghost use mathlib.Core.Path.{_≡_};
+ghost use Prim.Native.Nat.{_≤_};
+ghost use lib.Dec.{ltb};
+ghost use lib.ListN.{length};
+ghost use Rattle.text.specs.Split.{fields};
+ghost use Rattle.rule.specs.Form.{nodeLimit};
+ghost use Rattle.field.specs.Names.{fault};
+ghost use Rattle.line.specs.Fault.{ended as endedBy, fieldsFault, formFault, full as fullBy, headerFault, lineFault, lineLimit, unknown as unknownBy};
+ghost use Rattle.field.specs.Table.{Roomy, namesOf};
+ghost use Rattle.field.specs.Words.{bodyOf, formOf};
+use crate::Marks;
+use crate::Sheet;
+use field::Form;
+use field::Section;
+use field::Table;
+use rule::Rule;
+
+// Whether the section has ended.
+fn ended(m: Marks, s: Section) -> bool
+    ensures { λ r. ⌜ r ≡ endedBy m s ⌝ }
+{
+    match s {
+        Section::Declarations => {
+            if m.stated {
+                return true;
+            }
+            0 < m.rules
+        }
+        Section::Statements => 0 < m.rules,
+        Section::Rules => false,
+        Section::None => false,
+    }
+}
+
+// Whether the word of the section is unknown.
+fn unknown(s: Section) -> bool
+    ensures { λ r. ⌜ r ≡ unknownBy s ⌝ }
+{
+    match s {
+        Section::Declarations => false,
+        Section::Statements => false,
+        Section::Rules => false,
+        Section::None => true,
+    }
+}
+
+// Whether there is no room for one more rule.
+fn full(m: Marks, s: Section) -> bool
+    ensures { λ r. ⌜ r ≡ fullBy m s ⌝ }
+{
+    match s {
+        Section::Declarations => false,
+        Section::Statements => false,
+        Section::Rules => Sheet::RULES <= m.rules,
+        Section::None => false,
+    }
+}
+
+// What is wrong with the room for rules, or with so many nodes.
+fn size_fault(filled: bool, nodes: usize) -> usize
+    ensures { λ r. ⌜ r ≡ fault filled 18 (fault (ltb nodeLimit nodes) 21 0) ⌝ }
+{
+    if filled {
+        return 18;
+    }
+    if Rule::NODES < nodes {
+        return 21;
+    }
+    0
+}
+
+// What is wrong with the fields of a line of the form given.
+fn fields_fault(sheet: &[u8], t: Table, m: Marks, line: &[u8], f: Form) -> usize
+    requires { ⌜ Roomy t × (length (now line) ≤ lineLimit) ⌝ }
+    ensures { λ r. ⌜ r ≡ fieldsFault (namesOf (now (sheet .entry)) t) m f (bodyOf (fields (now (line .entry)))) ⌝ }
+{
+    let l = crate::dues::lineup(f, field::words::body_count(line));
+    let w = crate::walk::walk(sheet, t, line, field::words::body(line), l);
+    if !w.fits {
+        return 14;
+    }
+    let filled = full(m, field::words::section(f));
+    crate::faults::lower(w.fault, size_fault(filled, w.nodes))
+}
+
+// What is wrong with a line, by its form.
+fn form_fault(sheet: &[u8], t: Table, m: Marks, line: &[u8]) -> usize
+    requires { ⌜ Roomy t × (length (now line) ≤ lineLimit) ⌝ }
+    ensures { λ r. ⌜ r ≡ formFault (namesOf (now (sheet .entry)) t) m (formOf (fields (now (line .entry)))) (bodyOf (fields (now (line .entry)))) ⌝ }
+{
+    let f = field::words::form(line);
+    let s = field::words::section(f);
+    if unknown(s) {
+        return 12;
+    }
+    if ended(m, s) {
+        return 13;
+    }
+    fields_fault(sheet, t, m, line, f)
+}
+
+// What is wrong with a line after the first: the lowest number that applies, or 0.
+pub fn line_fault(sheet: &[u8], t: Table, m: Marks, line: &[u8]) -> usize
+    requires { ⌜ Roomy t ⌝ }
+    ensures { λ r. ⌜ r ≡ lineFault (namesOf (now (sheet .entry)) t) m (now (line .entry)) ⌝ }
+{
+    if line.len() == 0 {
+        return 0;
+    }
+    if Sheet::LINE < line.len() {
+        return 10;
+    }
+    if !text::name::line_bytes(line) {
+        return 10;
+    }
+    form_fault(sheet, t, m, line)
+}
+
+// What is wrong with line 1.
+pub fn header_fault(line: &[u8]) -> usize
+    ensures { λ r. ⌜ r ≡ headerFault (now (line .entry)) ⌝ }
+{
+    if Sheet::LINE < line.len() {
+        return 10;
+    }
+    if !text::name::line_bytes(line) {
+        return 10;
+    }
+    if !text::part::same(line, b"sheet\t1") {
+        return 11;
+    }
+    0
+}

@@ -1,0 +1,10 @@
+-- What is proved of the statements and rules that lines say.
+pub mod Fields
+pub mod Stated
+pub mod Read
+pub mod Nodes
+pub mod Parse
+pub mod Rules
+pub mod Within
+pub mod Formed
+pub mod Judged

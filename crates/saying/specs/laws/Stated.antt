@@ -1,0 +1,49 @@
+-- The numbers of a statement, read from fields with nothing wrong, are below their counts. Assumes nothing.
+use mathlib.Core.Path.{_≡_, refl, sym, _∙_}
+use mathlib.Core.Bool.{Bool, true, false, not, true≢false}
+use mathlib.Core.List.{List, [], _∷_}
+use Prim.Native.Nat.{ℕ, zero, suc, _≤_, _<_}
+use native.Mathlib.Omega.{arith}
+use borrow.Author.Tests.{ltb-true, ltb-false, leb-false, not-false}
+use lib.Dec.{leb, ltb}
+use lib.ListN.{length, drop}
+use Rattle.text.specs.Bytes.{every, place}
+use Rattle.text.specs.Date.{dateShaped}
+use Rattle.text.specs.Name.{isName, lineByte}
+use Rattle.text.specs.Split.{fields}
+use Rattle.closure.specs.Cell.{Within, cellOf}
+use Rattle.closure.specs.Layout.{conceptLimit, itemLimit, roleLimit, width}
+use Rattle.rule.specs.Form.{nodeLimit}
+use Rattle.field.specs.declared.Due.{Due}
+use Rattle.field.specs.declared.Due.the-variants as due
+use Rattle.field.specs.declared.Form.{Form}
+use Rattle.field.specs.declared.Form.the-variants as form
+use Rattle.field.specs.declared.StatementWord.{StatementWord}
+use Rattle.field.specs.declared.StatementWord.the-variants as statement
+use Rattle.field.specs.Due.{dues, fits, isExpr, lineupOf}
+use Rattle.field.specs.Names.{Names, countsOf, declared, fault, fieldFault, fieldFaults, lowerFault, nameFault, newFault, nodesIn, plain, reserved}
+use Rattle.field.specs.Words.{at, Field, bodyOf, formOf, sectionOf}
+use Rattle.saying.specs.Read.{statementOf}
+use Rattle.field.specs.laws.Names.{lower-both, lower-first, lower-none}
+use Rattle.field.specs.laws.Right.{Right, concept-declared, item-declared, right-first, role-declared, role-use-declared}
+
+module _ (n : Names) where
+  at-later : (i : ℕ) (fs : List Field) → at i (drop 1 fs) ≡ at (suc i) fs
+  at-later i [] = refl
+  at-later i (f ∷ fs) = refl
+
+  two-right : (a b : Due) (fs : List Field) → isExpr a ≡ false → isExpr b ≡ false → Right n (a ∷ b ∷ []) fs → (fieldFault n a (at 0 fs) ≡ 0) × (fieldFault n b (at 1 fs) ≡ 0)
+  two-right a b fs e g r =
+      let x = right-first n a (b ∷ []) fs e r in
+      let y = right-first n b [] (drop 1 fs) g (x .1) in
+      (x .0, rw (at-later 0 fs) at (y .0))
+
+  pub statement-within : (w : StatementWord) (fs : List Field) → Right n (dues (lineupOf (form.Statement w) (length fs))) fs → Within (countsOf n) (cellOf (statementOf n w fs))
+  statement-within statement.In fs r = let x = two-right due.Item due.Concept fs refl refl r in (item-declared n _ (x .0), concept-declared n _ (x .1))
+  statement-within statement.Rel fs r =
+      let x = right-first n due.Role (due.Item ∷ due.Item ∷ []) fs refl r in
+      let y = two-right due.Item due.Item (drop 1 fs) refl refl (x .1) in
+      (role-declared n _ (x .0), item-declared n _ (rw (at-later 0 fs) at (y .0)), item-declared n _ (rw (at-later 1 fs) at (y .1)))
+  statement-within statement.Same fs r = let x = two-right due.Item due.Item fs refl refl r in (item-declared n _ (x .0), item-declared n _ (x .1))
+  statement-within statement.Under fs r = let x = two-right due.Concept due.Concept fs refl refl r in (concept-declared n _ (x .0), concept-declared n _ (x .1))
+  statement-within statement.RoleUnder fs r = let x = two-right due.RoleUse due.RoleUse fs refl refl r in (role-use-declared n _ (x .0), role-use-declared n _ (x .1))
