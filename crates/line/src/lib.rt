@@ -1,11 +1,11 @@
 // What is wrong with a line: the fields that are due in it, each field by itself, and the line as a whole.
-pub mod dues;
-pub mod faults;
+mod dues;
+mod faults;
 pub mod lines;
-pub mod walk;
+mod walk;
 
 // What is due first in the middle of an expression, before some expressions.
-pub enum Lead {
+enum Lead {
     None,
     RoleUse,
     AtLeast,
@@ -14,14 +14,14 @@ pub enum Lead {
 }
 
 // What is still due in a line: the lead, so many expressions, and of the line-up what comes after its first so many.
-pub struct Pending {
+struct Pending {
     pub lead: Lead,
     pub exprs: usize,
     pub own: usize,
 }
 
 // What all the fields of a line come to: whether they are exactly those that are due, the lowest number of refusal that applies to one of them or 0, and their nodes.
-pub struct Walked {
+struct Walked {
     pub fits: bool,
     pub fault: usize,
     pub nodes: usize,

@@ -1,13 +1,13 @@
 // What a line without a fault says: a statement or a rule.
-pub mod expressions;
-pub mod numbers;
+mod expressions;
+mod numbers;
 pub mod rules;
 pub mod statements;
 
 use rule::Slot;
 
 // The nodes of expressions read so far, how many they are, and the place in the line past them.
-pub struct Parsed {
+struct Parsed {
     pub nodes: [Slot; 32],
     pub len: usize,
     pub at: usize,

@@ -11,7 +11,7 @@ use closure::Store;
 use line::Marks;
 
 // Whether a statement or a rule was accepted.
-pub fn begun(m: Marks) -> bool
+fn begun(m: Marks) -> bool
     ensures { λ r. ⌜ r ≡ begunBy m ⌝ }
 {
     if m.stated {

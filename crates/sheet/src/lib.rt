@@ -1,9 +1,9 @@
 // Whole sheets: what their lines say one after the other, reading them into a lent store, and their rules a second time.
-pub mod keeping;
+mod keeping;
 pub mod pass;
 pub mod reads;
 pub mod sheets;
-pub mod taking;
+mod taking;
 
 ghost use Rattle.sheet.specs.Promise.{Reads};
 use closure::Counts;
