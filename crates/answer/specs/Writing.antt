@@ -15,7 +15,7 @@ use Rattle.field.specs.Names.{Names, countsOf}
 use Rattle.sheet.specs.Promise.{Held}
 use Rattle.sheet.specs.Said.{Said, SheetStatement, outcome}
 use Rattle.sheet.specs.Said.Outcome.{accepted}
-use Rattle.field.specs.Table.{Roomy, namesOf}
+use Rattle.field.specs.own.Table.{Roomy, namesOf}
 use Rattle.why.specs.Listed.{linesOf}
 use Rattle.why.specs.Reason.{Reason}
 use Rattle.answer.specs.declared.Absent.{Absent}

@@ -7,7 +7,7 @@ ghost use lib.ListN.{length, getD};
 ghost use Rattle.text.specs.Split.{fields};
 ghost use Rattle.text.specs.Text.{Wrote};
 ghost use Rattle.field.specs.Words.{formOf};
-ghost use Rattle.field.specs.Table.{namesOf};
+ghost use Rattle.field.specs.own.Table.{namesOf};
 ghost use Rattle.row.specs.Row.{rowHasb};
 ghost use Rattle.reason.specs.Picked.{markWords};
 ghost use Rattle.answer.specs.Text.{numberedText};

@@ -3,7 +3,7 @@ ghost use mathlib.Core.Path.{_≡_};
 ghost use mathlib.Core.Bool.{true};
 ghost use Rattle.closure.specs.Cell.{cellOf};
 ghost use Rattle.sheet.specs.Promise.{refusedText};
-ghost use Rattle.field.specs.Table.{namesOf};
+ghost use Rattle.field.specs.own.Table.{namesOf};
 ghost use Rattle.why.specs.Asked.{Asked, Of};
 ghost use Rattle.answer.specs.Promise.{Fitted, Replies};
 ghost use Rattle.answer.specs.Question.{aboutFinding};

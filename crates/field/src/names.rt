@@ -3,7 +3,7 @@ ghost use mathlib.Core.List.{map};
 ghost use Prim.Native.Nat.{_≤_, _<_};
 ghost use Rattle.text.specs.Bytes.{place, same};
 ghost use Rattle.field.specs.Names.{inverted as invertedOf, plain as plainOf, countOf};
-ghost use Rattle.field.specs.Table.{Placed, Roomy, nameAt, namesOf, tagOf};
+ghost use Rattle.field.specs.own.Table.{Placed, Roomy, nameAt, namesOf, tagOf};
 use crate::Table;
 
 // The tag of a name: a number below 2,048 made of its last two bytes.

@@ -3,7 +3,7 @@ ghost use Prim.Native.Nat.{_+_, _*_, _≤_, _<_};
 ghost use lib.ListN.{length};
 ghost use Rattle.text.specs.Split.{fieldFrom};
 ghost use Rattle.text.specs.Name.{nameLimit};
-ghost use Rattle.field.specs.Table.{tagOf, withConcept, withItem, withRole};
+ghost use Rattle.field.specs.own.Table.{tagOf, withConcept, withItem, withRole};
 use crate::Table;
 use closure::Counts;
 

@@ -1,4 +1,4 @@
--- What is wrong with a line, and the walk along its fields. Definitions here; what is proved of them in laws.
+-- What is wrong with a line. Definitions here; the code's own records in own, what is proved in laws.
 pub mod Fault
-pub mod Walk
+pub mod own
 pub mod laws

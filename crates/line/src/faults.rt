@@ -3,7 +3,7 @@ ghost use mathlib.Core.Bool.{not};
 ghost use lib.Dec.{leb, ltb};
 ghost use Rattle.text.specs.Name.{isName};
 ghost use Rattle.field.specs.Names.{fault, fieldFault, isCount, lowerFault};
-ghost use Rattle.field.specs.Table.{Roomy, namesOf};
+ghost use Rattle.field.specs.own.Table.{Roomy, namesOf};
 use closure::Store;
 use field::Due;
 use field::Table;

@@ -6,7 +6,7 @@ ghost use Rattle.text.specs.Split.{fields};
 ghost use Rattle.rule.specs.Form.{nodeLimit};
 ghost use Rattle.field.specs.Names.{fault};
 ghost use Rattle.line.specs.Fault.{ended as endedBy, fieldsFault, formFault, full as fullBy, headerFault, lineFault, lineLimit, unknown as unknownBy};
-ghost use Rattle.field.specs.Table.{Roomy, namesOf};
+ghost use Rattle.field.specs.own.Table.{Roomy, namesOf};
 ghost use Rattle.field.specs.Words.{bodyOf, formOf};
 use crate::Marks;
 use crate::Sheet;

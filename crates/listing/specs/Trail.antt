@@ -9,12 +9,12 @@ use Rattle.rule.specs.declared.Search.{Search}
 use Rattle.rule.specs.Search.{Coming, Ready}
 use Rattle.sheet.specs.declared.Reading.the-variants.{Accepted, Refused}
 use Rattle.field.specs.declared.Table.{Table}
-use Rattle.sheet.specs.Pass.{Passing, Paused}
+use Rattle.sheet.specs.own.Pass.{Passing, Paused}
 use Rattle.field.specs.Names.{countsOf}
 use Rattle.sheet.specs.Promise.{FindingsFrom, FindingsIn, Held, Reads}
 use Rattle.sheet.specs.Said.{Said, SheetRule, outcome}
 use Rattle.sheet.specs.Said.Outcome.{accepted as acceptedSheet}
-use Rattle.field.specs.Table.{namesOf}
+use Rattle.field.specs.own.Table.{namesOf}
 use Rattle.listing.specs.declared.Opening.{Opening}
 use Rattle.listing.specs.declared.Trail.{Trail}
 

@@ -2,7 +2,7 @@
 ghost use mathlib.Core.Path.{_≡_};
 ghost use Prim.Native.Nat.{min, _≤_};
 ghost use Rattle.closure.specs.Layout.{ClosedStore, width};
-ghost use Rattle.sheet.specs.Pass.{Accepts, Paused};
+ghost use Rattle.sheet.specs.own.Pass.{Accepts, Paused};
 ghost use Rattle.listing.specs.Trail.{Ended, First, Going, Opens, Sought, Steps, searchOf, trailAt};
 use crate::Opening;
 use crate::Trail;

@@ -18,8 +18,8 @@ use Rattle.field.specs.declared.Table.{Table}
 use Rattle.sheet.specs.Promise.{FindingsFrom, Prints, findingsText, printLimit, secondText, tabbed}
 use Rattle.sheet.specs.Said.{Said, SheetRule, outcome}
 use Rattle.sheet.specs.Said.Outcome.{accepted}
-use Rattle.sheet.specs.Stands.{Opens}
-use Rattle.field.specs.Table.{namesOf}
+use Rattle.sheet.specs.own.Stands.{Opens}
+use Rattle.field.specs.own.Table.{namesOf}
 use Rattle.sheet.specs.laws.Stands.{Places}
 use Rattle.report.specs.declared.Tally.{Tally}
 

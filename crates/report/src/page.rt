@@ -1,5 +1,5 @@
 // The whole text of a sheet.
-ghost use Rattle.sheet.specs.Pass.{Judges};
+ghost use Rattle.sheet.specs.own.Pass.{Judges};
 ghost use Rattle.report.specs.Lines.{Filled, JudgedAll, Pages};
 use crate::Tally;
 use closure::Store;

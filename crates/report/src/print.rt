@@ -6,7 +6,7 @@ ghost use lib.ListN.{getD};
 ghost use Rattle.rule.specs.Search.{Ready};
 ghost use Rattle.text.specs.Text.{decimal, Wrote};
 ghost use Rattle.sheet.specs.Promise.{refusedText, secondText, tabbed, totalText};
-ghost use Rattle.field.specs.Table.{nameAt, namesOf};
+ghost use Rattle.field.specs.own.Table.{nameAt, namesOf};
 ghost use Rattle.report.specs.Lines.{RuleLines, Tallied, Tallying, lineText};
 use crate::Tally;
 use closure::Item;

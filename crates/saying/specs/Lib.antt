@@ -1,4 +1,4 @@
--- The statement or the rule that a line says, and the reader's own records of a rule's nodes. Definitions here; what is proved of them in laws.
+-- The statement or the rule that a line says. Definitions here; the code's own records in own, what is proved in laws.
 pub mod Read
-pub mod Nodes
+pub mod own
 pub mod laws

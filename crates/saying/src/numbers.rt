@@ -3,7 +3,7 @@ ghost use lib.ListN.{drop};
 ghost use Rattle.text.specs.Split.{partsFrom};
 ghost use Rattle.field.specs.Words.{at as fieldOf};
 ghost use Rattle.saying.specs.Read.{conceptOf, itemOf, roleOf, roleUseOf};
-ghost use Rattle.field.specs.Table.{Roomy, namesOf};
+ghost use Rattle.field.specs.own.Table.{Roomy, namesOf};
 use closure::Concept;
 use closure::Item;
 use closure::Role;

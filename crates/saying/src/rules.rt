@@ -1,9 +1,9 @@
 ghost use mathlib.Core.Path.{_≡_};
 ghost use lib.ListN.{length};
 ghost use Rattle.text.specs.Split.{partsFrom};
-ghost use Rattle.saying.specs.Nodes.{RuleReady};
+ghost use Rattle.saying.specs.own.Nodes.{RuleReady};
 ghost use Rattle.saying.specs.Read.{bare as bareRule, blank as blankSlots, chainOf, ruleOf};
-ghost use Rattle.field.specs.Table.{Roomy, namesOf};
+ghost use Rattle.field.specs.own.Table.{Roomy, namesOf};
 use crate::Parsed;
 use field::RuleWord;
 use field::Table;

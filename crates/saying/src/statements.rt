@@ -2,7 +2,7 @@ ghost use mathlib.Core.Path.{_≡_};
 ghost use Rattle.text.specs.Split.{partsFrom};
 ghost use Rattle.closure.specs.Cell.{turn as turned};
 ghost use Rattle.saying.specs.Read.{statementOf};
-ghost use Rattle.field.specs.Table.{Roomy, namesOf};
+ghost use Rattle.field.specs.own.Table.{Roomy, namesOf};
 use closure::Statement;
 use field::StatementWord;
 use field::Table;

@@ -1,7 +1,6 @@
--- Whole sheets: what they say, and what is promised of reading them. Definitions here; what is proved of them in laws.
+-- Whole sheets: what they say, and what is promised of reading them. Definitions here; the code's own records in own, what is proved in laws.
 pub mod Said
 pub mod Promise
 pub mod Demand3
-pub mod Stands
-pub mod Pass
+pub mod own
 pub mod laws

@@ -4,7 +4,7 @@ ghost use Rattle.closure.specs.Cell.{With, Within, cellOf};
 ghost use Rattle.closure.specs.Layout.{ClosedStore, Fits, Holds, size, width};
 ghost use Rattle.closure.specs.Promise.{Keeps};
 ghost use Rattle.line.specs.Fault.{begun as begunBy};
-ghost use Rattle.sheet.specs.Stands.{Begins};
+ghost use Rattle.sheet.specs.own.Stands.{Begins};
 use closure::Counts;
 use closure::Statement;
 use closure::Store;

@@ -2,8 +2,8 @@
 ghost use mathlib.Core.Path.{_≡_};
 ghost use mathlib.Core.Bool.{false};
 ghost use Rattle.text.specs.Split.{fields};
-ghost use Rattle.sheet.specs.Pass.{Accepts, LineRule, Next, Opened, Paused, RuleIfReady};
-ghost use Rattle.field.specs.Table.{Roomy, namesOf};
+ghost use Rattle.sheet.specs.own.Pass.{Accepts, LineRule, Next, Opened, Paused, RuleIfReady};
+ghost use Rattle.field.specs.own.Table.{Roomy, namesOf};
 ghost use Rattle.field.specs.Words.{bodyOf, formOf};
 use crate::RuleLine;
 use closure::Item;

@@ -1,6 +1,6 @@
 // Reading a sheet into a lent store.
 ghost use mathlib.Core.Path.{_≡_};
-ghost use Rattle.sheet.specs.Pass.{Judges, Totalled, Wholly, countedIn};
+ghost use Rattle.sheet.specs.own.Pass.{Judges, Totalled, Wholly, countedIn};
 use crate::Reading;
 use crate::Whole;
 use closure::Store;

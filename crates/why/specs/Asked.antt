@@ -4,10 +4,10 @@ use mathlib.Core.List.{List}
 use Prim.Native.Nat.{ℕ}
 use Rattle.closure.specs.Cell.{Cell}
 use Rattle.field.specs.declared.Table.{Table}
-use Rattle.sheet.specs.Pass.{Accepts}
+use Rattle.sheet.specs.own.Pass.{Accepts}
 use Rattle.sheet.specs.Said.{Said, outcome}
 use Rattle.sheet.specs.Said.Outcome.{accepted}
-use Rattle.field.specs.Table.{Roomy, namesOf}
+use Rattle.field.specs.own.Table.{Roomy, namesOf}
 use Rattle.reason.specs.Picked.{picked}
 use Rattle.why.specs.Reason.{FollowsFrom, Reason}
 

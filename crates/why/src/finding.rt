@@ -1,8 +1,8 @@
 // Why an item is a finding of a rule `sub` with concept names on both sides.
 ghost use mathlib.Core.Path.{_≡_};
 ghost use mathlib.Core.Bool.{false};
-ghost use Rattle.sheet.specs.Pass.{Accepts, Judges};
-ghost use Rattle.field.specs.Table.{Roomy};
+ghost use Rattle.sheet.specs.own.Pass.{Accepts, Judges};
+ghost use Rattle.field.specs.own.Table.{Roomy};
 ghost use Rattle.why.specs.Asked.{Of};
 ghost use Rattle.why.specs.Finding.{ExplainsFinding};
 ghost use Rattle.why.specs.Sides.{Breaking, NodeIs, RuleFound, SidesAre};

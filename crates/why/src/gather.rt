@@ -2,8 +2,8 @@
 ghost use mathlib.Core.Path.{_≡_};
 ghost use lib.ListN.{length};
 ghost use Rattle.closure.specs.Cell.{cellOf};
-ghost use Rattle.sheet.specs.Pass.{Accepts};
-ghost use Rattle.field.specs.Table.{Roomy};
+ghost use Rattle.sheet.specs.own.Pass.{Accepts};
+ghost use Rattle.field.specs.own.Table.{Roomy};
 ghost use Rattle.reason.specs.Picked.{markWords};
 ghost use Rattle.reason.specs.Promise.{Clear};
 ghost use Rattle.why.specs.Asked.{Asked, ReasonMarked};

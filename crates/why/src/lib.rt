@@ -5,8 +5,8 @@ pub mod stating;
 
 ghost use Prim.Native.Nat.{_≤_};
 ghost use Rattle.closure.specs.Cell.{cellOf};
-ghost use Rattle.sheet.specs.Pass.{Accepts};
-ghost use Rattle.field.specs.Table.{Roomy};
+ghost use Rattle.sheet.specs.own.Pass.{Accepts};
+ghost use Rattle.field.specs.own.Table.{Roomy};
 ghost use Rattle.why.specs.Asked.{Asked};
 ghost use Rattle.why.specs.Promise.{Explains};
 ghost use Rattle.why.specs.Writing.{Answered, Lists, PutIf};

@@ -24,8 +24,8 @@ use Rattle.field.specs.Words.{at, Field, bodyOf, formOf}
 use Rattle.saying.specs.Read.{itemOf}
 use Rattle.sheet.specs.Said.{Said, SheetRule, outcome}
 use Rattle.sheet.specs.Said.Outcome.{accepted}
-use Rattle.field.specs.Table.{namesOf}
-use Rattle.sheet.specs.Pass.{foundRule}
+use Rattle.field.specs.own.Table.{namesOf}
+use Rattle.sheet.specs.own.Pass.{foundRule}
 use Rattle.sheet.specs.laws.Count.{Turn, turn-rules}
 use Rattle.why.specs.declared.Sides.{Sides}
 use Rattle.why.specs.Finding.{BrokenSub}

@@ -19,13 +19,13 @@ use Rattle.field.specs.declared.Form.the-variants as form
 use Rattle.field.specs.declared.StatementWord.{StatementWord}
 use Rattle.field.specs.declared.Table.{Table}
 use Rattle.field.specs.Names.{Names, countsOf}
-use Rattle.sheet.specs.Pass.{Judges}
+use Rattle.sheet.specs.own.Pass.{Judges}
 use Rattle.sheet.specs.Promise.{refusedText}
 use Rattle.sheet.specs.Said.{Said, SheetStatement, outcome}
 use Rattle.saying.specs.Read.{statementOf}
 use Rattle.sheet.specs.Said.Outcome.{accepted}
-use Rattle.sheet.specs.Stands.{Opens}
-use Rattle.field.specs.Table.{namesOf}
+use Rattle.sheet.specs.own.Stands.{Opens}
+use Rattle.field.specs.own.Table.{namesOf}
 use Rattle.field.specs.Words.{bodyOf}
 use Rattle.sheet.specs.laws.Count.{opens-held, opens-outcome}
 use Rattle.sheet.specs.laws.Pass.{saidOf}

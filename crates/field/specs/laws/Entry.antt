@@ -12,7 +12,7 @@ use Rattle.text.specs.Split.{endOf, fieldFrom}
 use Rattle.text.specs.laws.Choice.{le-cases}
 use Rattle.text.specs.laws.Name.{name-bounds}
 use Rattle.text.specs.laws.Split.{end-ge, end-le, field-here, field-none}
-use Rattle.field.specs.Table.{nameAt, tagOf, tagged}
+use Rattle.field.specs.own.Table.{nameAt, tagOf, tagged}
 use Rattle.field.specs.laws.Tag.{tagged-own}
 
 drop-take : (a m : ℕ) (x : List ℕ) → drop a (take (a + m) x) ≡ take m (drop a x)

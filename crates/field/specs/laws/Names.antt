@@ -14,7 +14,7 @@ use Rattle.text.specs.Name.{isName}
 use Rattle.closure.specs.Layout.{conceptLimit, roleLimit, itemLimit, width}
 use Rattle.field.specs.declared.Due.the-variants as due
 use Rattle.field.specs.Names.{Names, reserved, inverted, plain, countOf, isCount, fault, newFault, nameFault, fieldFault, lowerFault}
-use Rattle.field.specs.Table.{Placed, entered}
+use Rattle.field.specs.own.Table.{Placed, entered}
 use Rattle.field.specs.Words.{Field}
 
 -- ---- the first byte of a field

@@ -9,7 +9,7 @@ use borrow.Author.Tests.{eq-eqb, ne-eqb}
 use lib.ListN.{length, getD}
 use Rattle.text.specs.Bytes.{same}
 use Rattle.text.specs.laws.Bytes.{same-length, same-true}
-use Rattle.field.specs.Table.{tagOf, tagged}
+use Rattle.field.specs.own.Table.{tagOf, tagged}
 
 -- the tag of no byte, of one, and of more
 pub tag-none : (w : List ℕ) → length w ≡ 0 → 0 ≡ tagOf w

@@ -19,7 +19,7 @@ use Rattle.field.specs.declared.Operator.the-variants as operator
 use Rattle.line.specs.declared.Pending.{Pending}
 use Rattle.field.specs.Due.{dues, isExpr, wanted}
 use Rattle.line.specs.Fault.{none}
-use Rattle.line.specs.Walk.{before, pending, opening, Stepped, Step}
+use Rattle.line.specs.own.Walk.{before, pending, opening, Stepped, Step}
 
 -- ---- the dues of a line-up
 

@@ -18,7 +18,7 @@ use Rattle.line.specs.declared.Walked.{Walked}
 use Rattle.field.specs.Due.{dues, lineupOf}
 use Rattle.line.specs.Fault.{ended, fieldsFault, formFault, full, header, headerFault, lineFault, lineLimit, none, unknown}
 use Rattle.field.specs.Names.{Names, fault, lowerFault}
-use Rattle.line.specs.Walk.{WalkedBy}
+use Rattle.line.specs.own.Walk.{WalkedBy}
 use Rattle.field.specs.Words.{Field, bodyOf, formOf, sectionOf}
 
 -- ---- a line by itself

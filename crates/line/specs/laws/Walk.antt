@@ -12,7 +12,7 @@ use Rattle.field.specs.declared.Operator.the-variants as operator
 use Rattle.field.specs.Due.{fits, isExpr, wanted}
 use Rattle.field.specs.Names.{Names, fieldFault, fieldFaults, lowerFault, nodesIn, nodesOf}
 use Rattle.line.specs.Fault.{none}
-use Rattle.line.specs.Walk.{Stepped, WalkedBy}
+use Rattle.line.specs.own.Walk.{Stepped, WalkedBy}
 use Rattle.field.specs.Words.{Field, operatorOf}
 use Rattle.field.specs.laws.Names.{lower-none, lower-first, lower-assoc}
 

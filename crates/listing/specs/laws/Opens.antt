@@ -11,12 +11,12 @@ use Rattle.sheet.specs.declared.Reading.{Reading}
 use Rattle.sheet.specs.declared.Reading.the-variants.{Accepted, Refused}
 use Rattle.sheet.specs.declared.Whole.{Whole}
 use Rattle.field.specs.Names.{countsOf}
-use Rattle.sheet.specs.Pass.{Accepts, Wholly}
+use Rattle.sheet.specs.own.Pass.{Accepts, Wholly}
 use Rattle.sheet.specs.Promise.{FindingsIn, Held, Reads}
 use Rattle.sheet.specs.Promise.Reads.{wrong-size, refused as refusedRead, accepted as acceptedRead}
 use Rattle.sheet.specs.Said.{Said, outcome}
 use Rattle.sheet.specs.Said.Outcome.{accepted as acceptedSheet}
-use Rattle.field.specs.Table.{namesOf}
+use Rattle.field.specs.own.Table.{namesOf}
 use Rattle.sheet.specs.laws.Stands.{Places, counts-of}
 use Rattle.listing.specs.declared.Trail.{Trail}
 use Rattle.listing.specs.Trail.{First, Opens}

@@ -22,11 +22,11 @@ use Rattle.text.specs.Split.{endOf}
 use Rattle.sheet.specs.declared.RuleLine.{RuleLine}
 use Rattle.field.specs.declared.Table.{Table}
 use Rattle.field.specs.Names.{countsOf}
-use Rattle.sheet.specs.Pass.{Next, NextRule, Passing, Paused, countedIn, foundRule}
+use Rattle.sheet.specs.own.Pass.{Next, NextRule, Passing, Paused, countedIn, foundRule}
 use Rattle.sheet.specs.Promise.{FindingsFrom}
 use Rattle.sheet.specs.Promise.FindingsFrom.{none, more}
 use Rattle.sheet.specs.Said.{SheetRule}
-use Rattle.field.specs.Table.{Roomy}
+use Rattle.field.specs.own.Table.{Roomy}
 use Rattle.sheet.specs.laws.Pass.{passing-rest, passing-start}
 use Rattle.sheet.specs.laws.Stands.{Places, counts-of}
 use Rattle.listing.specs.declared.Trail.{Trail}

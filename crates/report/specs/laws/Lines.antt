@@ -18,7 +18,7 @@ use Rattle.rule.specs.Findings.{Findings}
 use Rattle.field.specs.Names.{Names}
 use Rattle.sheet.specs.Promise.{findingText, findingsText}
 use Rattle.sheet.specs.Said.{Said}
-use Rattle.field.specs.Table.{entered, nameAt}
+use Rattle.field.specs.own.Table.{entered, nameAt}
 use Rattle.field.specs.laws.Tag.{tag-none, tagged-own, tagged-short}
 use Rattle.report.specs.Lines.{lineOf, lineText, linesText}
 

@@ -13,12 +13,12 @@ use Rattle.sheet.specs.declared.Ended.{Ended}
 use Rattle.sheet.specs.declared.RuleLine.{RuleLine}
 use Rattle.field.specs.declared.Table.{Table}
 use Rattle.field.specs.Names.{countsOf}
-use Rattle.sheet.specs.Pass.{Judges, foundRule}
+use Rattle.sheet.specs.own.Pass.{Judges, foundRule}
 use Rattle.sheet.specs.Promise.{Held, refusedText, totalText}
 use Rattle.sheet.specs.Promise.Prints.{refused}
 use Rattle.sheet.specs.Said.{Said, SheetRule, outcome}
 use Rattle.sheet.specs.Said.Outcome.{accepted as acceptedSheet}
-use Rattle.field.specs.Table.{namesOf}
+use Rattle.field.specs.own.Table.{namesOf}
 use Rattle.sheet.specs.laws.Unique.{prints-unique}
 use Rattle.sheet.specs.laws.Count.{Turn, opens-held, opens-judges, opens-outcome, turn-rules}
 use Rattle.report.specs.declared.Tally.{Tally}

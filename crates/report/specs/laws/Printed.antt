@@ -17,7 +17,7 @@ use Rattle.sheet.specs.Promise.{FindingsFrom, Held, Prints, findingsText, print
 use Rattle.sheet.specs.Promise.FindingsFrom.{none, more}
 use Rattle.sheet.specs.Promise.Prints.{accepted}
 use Rattle.sheet.specs.Said.{Said, SheetRule, outcome}
-use Rattle.field.specs.Table.{Roomy, namesOf}
+use Rattle.field.specs.own.Table.{Roomy, namesOf}
 use Rattle.field.specs.laws.Names.{entered-length}
 use Rattle.sheet.specs.Said.Outcome.{accepted as acceptedSheet}
 use Rattle.report.specs.declared.Tally.{Tally}

@@ -18,7 +18,7 @@ use Rattle.rule.specs.Search.{Starts}
 use Rattle.text.specs.Text.{Wrote}
 use Rattle.field.specs.Names.{Names}
 use Rattle.report.specs.declared.Tally.{Tally}
-use Rattle.sheet.specs.Pass.{countedIn}
+use Rattle.sheet.specs.own.Pass.{countedIn}
 use Rattle.report.specs.Lines.{RuleLines, Tallied, findingBound, linesText}
 
 -- the first ones as far as they reach

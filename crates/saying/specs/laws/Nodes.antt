@@ -17,7 +17,7 @@ use Rattle.field.specs.declared.Operator.{Operator}
 use Rattle.field.specs.declared.Operator.the-variants as operator
 use Rattle.saying.specs.declared.Parsed.{Parsed}
 use Rattle.field.specs.Names.{Names, countOf}
-use Rattle.saying.specs.Nodes.{childrenOf, headFields, headNodes, joining, putting, puttingAll}
+use Rattle.saying.specs.own.Nodes.{childrenOf, headFields, headNodes, joining, putting, puttingAll}
 use Rattle.saying.specs.Read.{Read, byWord, nodesAt, size, slot}
 use Rattle.field.specs.Words.{at, Field}
 

@@ -21,7 +21,7 @@ use Rattle.field.specs.declared.Operator.the-variants as operator
 use Rattle.saying.specs.declared.Parsed.{Parsed}
 use Rattle.field.specs.Due.{fits, wanted}
 use Rattle.field.specs.Names.{Names, nodesIn, nodesOf}
-use Rattle.saying.specs.Nodes.{ReadsOne, Ready, WordTaken, childrenOf, headFields, headNodes, joining}
+use Rattle.saying.specs.own.Nodes.{ReadsOne, Ready, WordTaken, childrenOf, headFields, headNodes, joining}
 use Rattle.saying.specs.Read.{Read, byWord, nodesAt, read, size, slot}
 use Rattle.field.specs.Words.{at, Field, operatorOf}
 use Rattle.saying.specs.laws.Nodes.{drop-later, front, join-nodes, leaf-nodes, map-append, nodes-length, one-nodes, put-all, two-nodes}

@@ -17,7 +17,7 @@ use Rattle.saying.specs.declared.Parsed.{Parsed}
 use Rattle.field.specs.declared.RuleWord.the-variants as rule
 use Rattle.field.specs.Due.{fits}
 use Rattle.field.specs.Names.{Names}
-use Rattle.saying.specs.Nodes.{ReadsOne, Ready, RuleReady}
+use Rattle.saying.specs.own.Nodes.{ReadsOne, Ready, RuleReady}
 use Rattle.saying.specs.Read.{Read, blank, itemOf, nodesAt, readExpr, ruleOf, size, slot}
 use Rattle.field.specs.Words.{at, Field}
 use Rattle.saying.specs.laws.Nodes.{nodes-length}

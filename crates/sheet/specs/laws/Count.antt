@@ -23,14 +23,14 @@ use Rattle.sheet.specs.declared.RuleLine.{RuleLine}
 use Rattle.field.specs.declared.Table.{Table}
 use Rattle.sheet.specs.declared.Whole.{Whole}
 use Rattle.field.specs.Names.{countsOf}
-use Rattle.sheet.specs.Pass.{Accepts, Counted, Judges, Next, NextRule, Opened, Passing, Paused, Totalled, Wholly, countedIn, foundRule}
+use Rattle.sheet.specs.own.Pass.{Accepts, Counted, Judges, Next, NextRule, Opened, Passing, Paused, Totalled, Wholly, countedIn, foundRule}
 use Rattle.sheet.specs.Promise.{FindingsFrom, FindingsIn, Held, Leaves, Reads}
 use Rattle.sheet.specs.Promise.FindingsFrom.{none, more}
 use Rattle.sheet.specs.Promise.Reads.{wrong-size, refused as refusedRead, accepted as acceptedRead}
 use Rattle.sheet.specs.Said.{Outcome, Said, SheetRule, marksOf, outcome}
 use Rattle.sheet.specs.Said.Outcome.{accepted, refused}
-use Rattle.sheet.specs.Stands.{Opens}
-use Rattle.field.specs.Table.{Roomy, namesOf}
+use Rattle.sheet.specs.own.Stands.{Opens}
+use Rattle.field.specs.own.Table.{Roomy, namesOf}
 use Rattle.sheet.specs.laws.Few.{few-findings}
 use Rattle.sheet.specs.laws.Pass.{not-both, passing-rest, saidOf}
 use Rattle.sheet.specs.laws.Stands.{Places, counts-of}

@@ -12,8 +12,8 @@ use Rattle.text.specs.laws.Split.{end-ge, end-le, parts-next, parts-none}
 use Rattle.sheet.specs.declared.Kept.{Kept}
 use Rattle.line.specs.Fault.{lineFault, sheetLimit}
 use Rattle.sheet.specs.Said.{Outcome, Said, lineSaid, marksOf, outcomeFrom}
-use Rattle.sheet.specs.Stands.{Ends, Stands, Takes}
-use Rattle.field.specs.Table.{namesOf}
+use Rattle.sheet.specs.own.Stands.{Ends, Stands, Takes}
+use Rattle.field.specs.own.Table.{namesOf}
 
 -- the reading stands at a place of the sheet, at line n, where the outcome of all is o
 pub record Reads (sheet : List ℕ) (o : Outcome) (at n : ℕ) (k : Kept) (s : List ℕ) : Type 0 where

@@ -17,12 +17,12 @@ use Rattle.field.specs.declared.RuleWord.{RuleWord}
 use Rattle.field.specs.declared.Table.{Table}
 use Rattle.line.specs.Fault.{headerFault, lineFault, none, sheetLimit}
 use Rattle.field.specs.Names.{Names}
-use Rattle.saying.specs.Nodes.{RuleReady}
-use Rattle.sheet.specs.Pass.{LineRule, NextRule, Passing, RuleIfReady, foundRule}
+use Rattle.saying.specs.own.Nodes.{RuleReady}
+use Rattle.sheet.specs.own.Pass.{LineRule, NextRule, Passing, RuleIfReady, foundRule}
 use Rattle.saying.specs.Read.{ruleOf}
 use Rattle.sheet.specs.Said.{Outcome, Said, SheetRule, lineSaid, marksOf, nothing, outcome, outcomeFrom, outcomeOf, saying}
 use Rattle.sheet.specs.Said.Outcome.{accepted, refused}
-use Rattle.field.specs.Table.{namesOf}
+use Rattle.field.specs.own.Table.{namesOf}
 use Rattle.field.specs.Words.{Field, bodyOf, formOf, lineForm}
 use Rattle.line.specs.laws.Accepted.{line-accepted}
 use Rattle.sheet.specs.laws.Settled.{rule-begun, sheet-settled}

@@ -19,8 +19,8 @@ use Rattle.line.specs.Fault.{begun, headerFault, sheetLimit}
 use Rattle.sheet.specs.Promise.{Leaves, Stopped}
 use Rattle.sheet.specs.Said.{Said, marksOf, nothing, outcome, outcomeFrom, outcomeOf}
 use Rattle.sheet.specs.Said.Outcome.{refused}
-use Rattle.sheet.specs.Stands.{Begins, Ends, Opens, Stands}
-use Rattle.field.specs.Table.{Roomy, namesOf}
+use Rattle.sheet.specs.own.Stands.{Begins, Blank, Ends, Opens, Stands}
+use Rattle.field.specs.own.Table.{Roomy, namesOf}
 use Rattle.sheet.specs.laws.Stands.{Places, begun-keeps, counts-of}
 
 -- ---- how it begins
@@ -30,11 +30,6 @@ pub zeroed-all : (s t : List ℕ) → Zeroed s t → t ≡ replicate (length s) 
 zeroed-all s t z =
     ext-getD 0 t (replicate (length s) 0) (z .mapped .len ∙ sym (length-replicate (length s) 0))
     (λ i h. let g : i < length s = omega (arith, z .mapped .len) in z .mapped .inside i zero-le g ∙ sym (getD-replicate (length s) i 0 0 g))
-
--- nothing is said yet
-pub record Blank (k : Kept) : Type 0 where
-  pub counts : k .table .counts ≡ record { items = 0; concepts = 0; roles = 0 }
-  pub marks : k .marks ≡ record { stated = false; rules = 0 }
 
 module _ (sheet : List ℕ) (k : Kept) (b : Blank k) where
   blank-names : nothing .names ≡ namesOf sheet (k .table)

@@ -38,8 +38,8 @@ use Rattle.sheet.specs.Promise.{Stopped}
 use Rattle.field.specs.Words.{at, Field}
 use Rattle.sheet.specs.Said.{Said, SheetStatement, saying, statementsOf}
 use Rattle.saying.specs.Read.{statementOf}
-use Rattle.sheet.specs.Stands.{Begins, Stands}
-use Rattle.field.specs.Table.{Roomy, entered, nameAt, namesOf, withConcept, withItem, withRole}
+use Rattle.sheet.specs.own.Stands.{Begins, Stands}
+use Rattle.field.specs.own.Table.{Roomy, entered, nameAt, namesOf, withConcept, withItem, withRole}
 use Rattle.field.specs.laws.Names.{entered-length}
 
 -- ---- the store

@@ -26,8 +26,8 @@ use Rattle.field.specs.Names.{fieldFault}
 use Rattle.field.specs.Words.{at, bodyOf, formOf}
 use Rattle.sheet.specs.Said.{Said, lineSaid, saying}
 use Rattle.saying.specs.Read.{statementOf}
-use Rattle.sheet.specs.Stands.{Begins, Stands, Takes}
-use Rattle.field.specs.Table.{Roomy, nameAt, namesOf, tagOf, withConcept, withItem, withRole}
+use Rattle.sheet.specs.own.Stands.{Begins, Stands, Takes}
+use Rattle.field.specs.own.Table.{Roomy, nameAt, namesOf, tagOf, withConcept, withItem, withRole}
 use Rattle.line.specs.laws.Accepted.{Accepted, line-accepted}
 use Rattle.field.specs.laws.Right.{concept-new, item-new, right-first, role-new}
 use Rattle.saying.specs.laws.Stated.{statement-within}

@@ -9,9 +9,9 @@ use Rattle.closure.specs.Layout.{Holds, size, width}
 use Rattle.sheet.specs.declared.Ended.{Ended}
 use Rattle.field.specs.declared.Table.{Table}
 use Rattle.field.specs.Names.{countsOf}
-use Rattle.sheet.specs.Pass.{Accepts}
+use Rattle.sheet.specs.own.Pass.{Accepts}
 use Rattle.sheet.specs.Said.{Said}
-use Rattle.sheet.specs.Stands.{Opens}
+use Rattle.sheet.specs.own.Stands.{Opens}
 use Rattle.sheet.specs.laws.Count.{opens-held, opens-outcome, whole-refused}
 use Rattle.sheet.specs.laws.Pass.{saidOf}
 use Rattle.sheet.specs.laws.Stands.{Places, counts-of}

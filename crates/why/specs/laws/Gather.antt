@@ -18,7 +18,7 @@ use Rattle.closure.specs.Lines.Stated.{stated}
 use Rattle.field.specs.declared.Table.{Table}
 use Rattle.field.specs.Names.{Names, countsOf}
 use Rattle.sheet.specs.Said.{SheetStatement, statementsOf}
-use Rattle.field.specs.Table.{Roomy, namesOf}
+use Rattle.field.specs.own.Table.{Roomy, namesOf}
 use Rattle.sheet.specs.laws.Stands.{Places, counts-of}
 use Rattle.reason.specs.Code.{AllWithin, Coded, cellAt}
 use Rattle.reason.specs.Code.Coded.{coded}

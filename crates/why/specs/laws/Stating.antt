@@ -19,7 +19,7 @@ use Rattle.field.specs.Names.{Names, countsOf}
 use Rattle.sheet.specs.Said.{Outcome, Said, SheetStatement, lineSaid, marksOf, nothing, outcome, outcomeFrom, saying}
 use Rattle.saying.specs.Read.{statementOf}
 use Rattle.sheet.specs.Said.Outcome.{accepted}
-use Rattle.field.specs.Table.{namesOf}
+use Rattle.field.specs.own.Table.{namesOf}
 use Rattle.field.specs.Words.{Field, bodyOf, formOf, lineForm}
 use Rattle.field.specs.laws.Right.{Right}
 use Rattle.line.specs.laws.Accepted.{line-accepted}

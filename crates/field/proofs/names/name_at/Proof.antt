@@ -1,7 +1,7 @@
 -- `field::names::name_at` meets its contract. Assumes nothing.
 use mathlib.Core.Path.{_≡_, sym, ap, _∙_}
 use borrow.Author.Needs.{needs}
-use Rattle.field.specs.Table.{tagOf}
+use Rattle.field.specs.own.Table.{tagOf}
 use Rattle.field.specs.laws.Tag.{tagged-own, tagged-none}
 use Rattle.field.proofs.names.name_at.Statement.{statement}
 use Rattle.field.proofs.names.name_at.Tie as tie

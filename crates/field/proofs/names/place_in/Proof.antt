@@ -7,7 +7,7 @@ use Prim.Native.Nat.{_≤_, _+_, _-_}
 use lib.ListN.{length, drop}
 use Rattle.text.specs.Bytes.{place}
 use Rattle.text.specs.laws.Bytes.{table-here, table-on, table-out}
-use Rattle.field.specs.Table.{nameAt}
+use Rattle.field.specs.own.Table.{nameAt}
 use Rattle.field.proofs.names.place_in.Statement.{statement}
 use Rattle.field.proofs.names.place_in.Tie as tie
 

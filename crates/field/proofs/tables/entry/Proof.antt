@@ -3,7 +3,7 @@ use native.Mathlib.Omega.{arith}
 use mathlib.Core.Path.{ap, _∙_}
 use lib.ListN.{length}
 use borrow.Author.Needs.{needs}
-use Rattle.field.specs.Table.{tagOf}
+use Rattle.field.specs.own.Table.{tagOf}
 use Rattle.field.proofs.tables.entry.Statement.{statement}
 use Rattle.field.proofs.tables.entry.Tie as tie
 

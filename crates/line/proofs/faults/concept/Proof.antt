@@ -1,6 +1,6 @@
 -- `line::faults::concept` meets its contract. Assumes nothing.
 use mathlib.Core.Path.{sym, _∙_}
-use Rattle.field.specs.Table.{namesOf}
+use Rattle.field.specs.own.Table.{namesOf}
 use Rattle.field.specs.laws.Names.{concept-word, concept-name, old-at}
 use borrow.Author.Needs.{needs}
 use Rattle.line.proofs.faults.concept.Statement.{statement}

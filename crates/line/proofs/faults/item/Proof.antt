@@ -1,6 +1,6 @@
 -- `line::faults::item` meets its contract. Assumes nothing.
 use mathlib.Core.Path.{_∙_}
-use Rattle.field.specs.Table.{namesOf}
+use Rattle.field.specs.own.Table.{namesOf}
 use Rattle.field.specs.laws.Names.{item-name, old-at}
 use borrow.Author.Needs.{needs}
 use Rattle.line.proofs.faults.item.Statement.{statement}

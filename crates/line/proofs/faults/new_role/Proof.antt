@@ -1,6 +1,6 @@
 -- `line::faults::new_role` meets its contract. Assumes nothing.
 use mathlib.Core.Path.{sym, ap, _∙_}
-use Rattle.field.specs.Table.{namesOf}
+use Rattle.field.specs.own.Table.{namesOf}
 use mathlib.Core.Bool.{not}
 use Rattle.field.specs.laws.Names.{new-role-none, new-role-name, new-at}
 use borrow.Author.Needs.{needs}

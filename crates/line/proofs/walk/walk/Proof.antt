@@ -9,8 +9,8 @@ use denote.Ref.{now}
 use Rattle.text.specs.Split.{partsFrom}
 use Rattle.text.specs.laws.Split.{fields-next, fields-none, past-here, end-ge}
 use Rattle.field.specs.Due.{dues}
-use Rattle.field.specs.Table.{namesOf}
-use Rattle.line.specs.Walk.{pending}
+use Rattle.field.specs.own.Table.{namesOf}
+use Rattle.line.specs.own.Walk.{pending}
 use Rattle.line.specs.laws.Walk.{Along, along-start, along-step, along-stop, along-end}
 use Rattle.line.proofs.walk.walk.Statement.{statement}
 use Rattle.line.proofs.walk.walk.Tie as tie

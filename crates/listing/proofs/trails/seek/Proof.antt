@@ -5,7 +5,7 @@ use lib.ListN.{length}
 use borrow.Author.Tests.{not-true, not-false}
 use Rattle.closure.specs.laws.Keeps.{laid-of}
 use Rattle.rule.specs.declared.Finding.{Finding}
-use Rattle.sheet.specs.Pass.{Paused}
+use Rattle.sheet.specs.own.Pass.{Paused}
 use Rattle.listing.specs.Trail.{Beyond}
 use Rattle.listing.specs.laws.Trail.{beyond-on, beyond-paused, sought-none, sought-some}
 use borrow.Author.Needs.{needs}

@@ -7,7 +7,7 @@ use Rattle.field.specs.Names.{countsOf}
 use Rattle.sheet.specs.Promise.{printLimit}
 use Rattle.sheet.specs.Said.{Said, SheetRule, outcome}
 use Rattle.sheet.specs.Said.Outcome.{accepted}
-use Rattle.field.specs.Table.{namesOf}
+use Rattle.field.specs.own.Table.{namesOf}
 use Rattle.sheet.specs.laws.Count.{Turn, turn-end, turn-next, turn-paused, turn-start}
 use Rattle.sheet.specs.laws.Few.{few-findings}
 use Rattle.sheet.specs.laws.Pass.{accepted-start}

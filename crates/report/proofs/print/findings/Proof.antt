@@ -4,7 +4,7 @@ use Prim.Native.Nat.{_+_, _*_, _-_, _≤_, _<_}
 use native.Mathlib.Omega.{arith}
 use lib.ListN.{length}
 use Rattle.rule.specs.Search.{Ready}
-use Rattle.field.specs.Table.{namesOf}
+use Rattle.field.specs.own.Table.{namesOf}
 use Rattle.report.specs.laws.Written.{Reached, reached-all, reached-more, reached-start}
 use Rattle.report.proofs.print.findings.Statement.{statement}
 use Rattle.report.proofs.print.findings.Tie as tie

@@ -2,7 +2,7 @@
 use mathlib.Core.Path.{ap, _∙_}
 use native.Mathlib.Omega.{arith}
 use Rattle.closure.specs.laws.Keeps.{laid-of}
-use Rattle.sheet.specs.Pass.{countedIn}
+use Rattle.sheet.specs.own.Pass.{countedIn}
 use Rattle.sheet.specs.laws.Few.{few-findings}
 use Rattle.report.specs.laws.Tally.{tallied}
 use borrow.Author.Needs.{needs}

@@ -2,7 +2,7 @@
 use mathlib.Core.Path.{ap, sym, _∙_}
 use native.Mathlib.Omega.{arith}
 use borrow.Author.Needs.{needs}
-use Rattle.field.specs.Table.{namesOf}
+use Rattle.field.specs.own.Table.{namesOf}
 use Rattle.field.specs.Words.{operatorOf}
 use Rattle.saying.specs.laws.Fields.{nth-first}
 use Rattle.saying.specs.laws.Parse.{first-ready, join-ready, ready-some, second-ready, two-else, word-leaf, word-one, word-room, word-two}

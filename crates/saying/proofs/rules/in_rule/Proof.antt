@@ -1,5 +1,5 @@
 -- `saying::rules::in_rule` meets its contract. Assumes nothing.
-use Rattle.field.specs.Table.{namesOf}
+use Rattle.field.specs.own.Table.{namesOf}
 use Rattle.saying.specs.laws.Rules.{in-first, in-rule}
 use borrow.Author.Needs.{needs}
 use Rattle.saying.proofs.rules.in_rule.Statement.{statement}

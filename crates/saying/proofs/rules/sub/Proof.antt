@@ -1,5 +1,5 @@
 -- `saying::rules::sub` meets its contract. Assumes nothing.
-use Rattle.field.specs.Table.{namesOf}
+use Rattle.field.specs.own.Table.{namesOf}
 use Rattle.saying.specs.laws.Rules.{sub-first, sub-rule, sub-second}
 use borrow.Author.Needs.{needs}
 use Rattle.saying.proofs.rules.sub.Statement.{statement}

@@ -3,7 +3,7 @@ use mathlib.Core.List.{List}
 use Prim.Native.Nat.{_+_, _-_, _≤_}
 use lib.ListN.{length}
 use Rattle.text.specs.laws.Split.{end-ge, end-le}
-use Rattle.sheet.specs.Pass.{Passing}
+use Rattle.sheet.specs.own.Pass.{Passing}
 use Rattle.sheet.specs.Said.{Said, SheetRule}
 use Rattle.sheet.specs.laws.Pass.{passing-end, passing-on, passing-past, passing-ready, passing-rule}
 use borrow.Author.Needs.{needs}

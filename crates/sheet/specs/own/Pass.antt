@@ -18,12 +18,12 @@ use Rattle.field.specs.declared.Table.{Table}
 use Rattle.sheet.specs.declared.Whole.{Whole}
 use Rattle.line.specs.Fault.{sheetLimit}
 use Rattle.field.specs.Names.{Names, countsOf}
-use Rattle.saying.specs.Nodes.{RuleReady}
+use Rattle.saying.specs.own.Nodes.{RuleReady}
 use Rattle.sheet.specs.Promise.{FindingsFrom, Reads}
 use Rattle.saying.specs.Read.{ruleOf}
 use Rattle.sheet.specs.Said.{Said, SheetRule, outcome, outcomeFrom}
 use Rattle.sheet.specs.Said.Outcome.{accepted}
-use Rattle.field.specs.Table.{Roomy, namesOf}
+use Rattle.field.specs.own.Table.{Roomy, namesOf}
 use Rattle.field.specs.Words.{Field, bodyOf, formOf}
 
 -- the line of a rule has the fields that are due

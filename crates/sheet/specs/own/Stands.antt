@@ -18,7 +18,7 @@ use Rattle.line.specs.Fault.{begun, lineFault, ruleLimit, sheetLimit}
 use Rattle.sheet.specs.Promise.{Leaves, Stopped}
 use Rattle.sheet.specs.Said.{Outcome, Said, marksOf, outcome}
 use Rattle.sheet.specs.Said.Outcome.{accepted, refused}
-use Rattle.field.specs.Table.{Roomy, namesOf}
+use Rattle.field.specs.own.Table.{Roomy, namesOf}
 
 -- the table t, the marks m and the words s stand for what was said, x
 pub record Stands (sheet : List ℕ) (t : Table) (m : Marks) (s : List ℕ) (x : Said) : Type 0 where
@@ -28,6 +28,11 @@ pub record Stands (sheet : List ℕ) (t : Table) (m : Marks) (s : List ℕ) (x :
   pub few : m .rules ≤ ruleLimit
   pub long : length s ≡ size width
   pub store : Stopped (begun m) x s
+
+-- what is kept before the first line: nothing
+pub record Blank (k : Kept) : Type 0 where
+  pub counts : k .table .counts ≡ record { items = 0; concepts = 0; roles = 0 }
+  pub marks : k .marks ≡ record { stated = false; rules = 0 }
 
 -- the words s have become t: fresh, unless a statement or a rule was accepted before
 abbrev pub Begins : Bool → Counts → List ℕ → List ℕ → Type 0
