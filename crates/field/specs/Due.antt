@@ -16,6 +16,10 @@ use Rattle.field.specs.declared.StatementWord.{StatementWord}
 use Rattle.field.specs.declared.StatementWord.the-variants as statement
 use Rattle.field.specs.Words.{Field, operatorOf}
 
+-- the most fields of a line-up
+abbrev pub lineupLimit : ℕ
+lineupLimit = 5
+
 -- so many fields
 abbrev pub one : Due → Lineup
 one a = record { count = 1; first = a; second = Nothing; third = Nothing; fourth = Nothing; fifth = Nothing }
@@ -26,9 +30,16 @@ two a b = record { count = 2; first = a; second = b; third = Nothing; fourth = N
 abbrev pub three : Due → Due → Due → Lineup
 three a b c = record { count = 3; first = a; second = b; third = c; fourth = Nothing; fifth = Nothing }
 
--- a chain has 3 to 5 roles: as many as there are fields, within these bounds
+-- the fewest and the most roles of a chain: those of its path, 2 to 4, and the one that the path is under
+abbrev pub chainShortest : ℕ
+chainShortest = 3
+
+abbrev pub chainLongest : ℕ
+chainLongest = 5
+
+-- as many roles as there are fields, within these bounds
 abbrev pub chain : ℕ → Lineup
-chain n = record { count = max 3 (min n 5); first = RoleUse; second = RoleUse; third = RoleUse; fourth = RoleUse; fifth = RoleUse }
+chain n = record { count = max chainShortest (min n chainLongest); first = RoleUse; second = RoleUse; third = RoleUse; fourth = RoleUse; fifth = RoleUse }
 
 -- what a statement's fields are
 abbrev pub statementLineup : StatementWord → Lineup

@@ -1,7 +1,7 @@
 -- The declared names, and what is wrong with a field.
 use mathlib.Core.Bool.{Bool, false, cond, not}
 use mathlib.Core.List.{List, [], _∷_}
-use Prim.Native.Nat.{ℕ, _+_, min}
+use Prim.Native.Nat.{ℕ, _+_, _-_, min}
 use lib.Dec.{leb, ltb, eqb}
 use lib.ListN.{length, getD, drop}
 use Rattle.text.specs.Bytes.{between, place}
@@ -9,6 +9,7 @@ use Rattle.text.specs.Date.{dateShaped, digit}
 use Rattle.text.specs.Name.{isName}
 use Rattle.closure.specs.Layout.{conceptLimit, roleLimit, itemLimit, width}
 use Rattle.closure.specs.declared.Counts.{Counts}
+use Rattle.rule.specs.Form.{countLimit}
 use Rattle.field.specs.declared.Due.{Due}
 use Rattle.field.specs.declared.Due.the-variants.{NewConcept, NewRole, NewItem, Concept, Role, Item, RoleUse, AtLeast, AtMost, Expr, Nothing}
 use Rattle.field.specs.declared.Operator.{Operator}
@@ -70,8 +71,8 @@ fieldFault n Concept f = fault (reserved f) 15 (nameFault (n .concepts) f)
 fieldFault n Role f = nameFault (n .roles) f
 fieldFault n Item f = nameFault (n .items) f
 fieldFault n RoleUse f = nameFault (n .roles) (plain f)
-fieldFault n AtLeast f = fault (not (isCount 1 8 f)) 20 0
-fieldFault n AtMost f = fault (not (isCount 0 7 f)) 20 0
+fieldFault n AtLeast f = fault (not (isCount 1 countLimit f)) 20 0
+fieldFault n AtMost f = fault (not (isCount 0 (countLimit - 1) f)) 20 0
 fieldFault n Expr f = cond (reserved f) 0 (nameFault (n .concepts) f)
 fieldFault n Nothing f = 0
 

@@ -4,6 +4,8 @@ pub mod tables;
 pub mod words;
 
 use closure::Counts;
+use closure::Store;
+use rule::Rule;
 
 // The words of concept expressions; None is any other field.
 pub enum Operator {
@@ -98,10 +100,30 @@ pub struct Lineup {
     pub fifth: Due,
 }
 
-// The declared names, each as an entry: its length, 32 times its place in the sheet, and 2,097,152 times its tag, which is made of its last two bytes.
+impl Lineup {
+    // The most fields.
+    pub const MOST: usize = 5;
+    // The fewest and the most roles of a chain: those of its path, and the one that the path is under.
+    pub const CHAIN_SHORTEST: usize = Rule::SHORTEST + 1;
+
+    pub const CHAIN_LONGEST: usize = Rule::LONGEST + 1;
+}
+
+// The declared names, each as an entry, which holds its tag (made of its last two bytes), its place in the sheet and its length.
 pub struct Table {
-    pub concepts: [u32; 32],
-    pub roles: [u32; 16],
-    pub items: [u32; 128],
+    pub concepts: [u32; Store::CONCEPTS],
+    pub roles: [u32; Store::ROLES],
+    pub items: [u32; Store::ITEMS],
     pub counts: Counts,
+}
+
+impl Table {
+    // How many tags there are.
+    pub const TAGS: u32 = 2048;
+    // How many places in a sheet an entry can tell.
+    pub const PLACES: u32 = 65536;
+    // How many lengths of names an entry can tell.
+    pub const LENGTHS: u32 = 32;
+    // How many entries have the same tag.
+    pub const TAGGED: u32 = Table::PLACES * Table::LENGTHS;
 }

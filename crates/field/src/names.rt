@@ -3,12 +3,12 @@ ghost use mathlib.Core.List.{map};
 ghost use Prim.Native.Nat.{_≤_, _<_};
 ghost use Rattle.text.specs.Bytes.{place, same};
 ghost use Rattle.field.specs.Names.{inverted as invertedOf, plain as plainOf, countOf};
-ghost use Rattle.field.specs.own.Table.{Placed, Roomy, nameAt, namesOf, tagOf};
+ghost use Rattle.field.specs.own.Table.{Placed, Roomy, nameAt, namesOf, tagCount, tagOf};
 use crate::Table;
 
-// The tag of a name: a number below 2,048 made of its last two bytes.
+// The tag of a name, made of its last two bytes.
 pub fn tag(w: &[u8]) -> u32
-    ensures { λ r. ⌜ (r ≡ tagOf (now (w .entry))) × (r < 2048) ⌝ }
+    ensures { λ r. ⌜ (r ≡ tagOf (now (w .entry))) × (r < tagCount) ⌝ }
 {
     let n = w.len();
     if n == 0 {
@@ -16,20 +16,20 @@ pub fn tag(w: &[u8]) -> u32
     }
     let last = w[n - 1] as u32;
     if n == 1 {
-        return last * 17 % 2048;
+        return (last + 16 * last) % Table::TAGS;
     }
     let before = w[n - 2] as u32;
-    (last + 16 * before) % 2048
+    (last + 16 * before) % Table::TAGS
 }
 
 // The name of an entry.
 pub fn name_at(sheet: &[u8], p: u32) -> &[u8]
     ensures { λ r. ⌜ now r ≡ nameAt (now (sheet .entry)) p ⌝ }
 {
-    let start = (p / 32 % 65536) as usize;
-    let count = (p % 32) as usize;
+    let start = (p / Table::LENGTHS % Table::PLACES) as usize;
+    let count = (p % Table::LENGTHS) as usize;
     let f = text::part::part(sheet, start, count);
-    if tag(f) == p / 2097152 {
+    if tag(f) == p / Table::TAGGED {
         f
     } else {
         text::part::part(sheet, 0, 0)
@@ -41,7 +41,7 @@ fn entry_is(sheet: &[u8], p: u32, w: &[u8], key: u32) -> bool
     requires { ⌜ key ≡ tagOf (now w) ⌝ }
     ensures { λ r. ⌜ r ≡ same (now (w .entry)) (nameAt (now (sheet .entry)) p) ⌝ }
 {
-    if p / 2097152 != key {
+    if p / Table::TAGGED != key {
         if 0 < w.len() {
             return false;
         }

@@ -1,21 +1,23 @@
 ghost use mathlib.Core.Path.{_≡_};
-ghost use Prim.Native.Nat.{_+_, _*_, _≤_, _<_};
+ghost use Prim.Native.Nat.{_+_, _≤_, _<_};
 ghost use lib.ListN.{length};
 ghost use Rattle.text.specs.Split.{fieldFrom};
 ghost use Rattle.text.specs.Name.{nameLimit};
-ghost use Rattle.field.specs.own.Table.{tagOf, withConcept, withItem, withRole};
+ghost use Rattle.closure.specs.Layout.{conceptLimit, itemLimit, roleLimit, width};
+ghost use Rattle.field.specs.own.Table.{entryOf, placeCount, withConcept, withItem, withRole};
 use crate::Table;
 use closure::Counts;
+use closure::Store;
 
 // The entry of the name in the field at a place of a line that starts at a place of the sheet.
 pub fn entry(start: usize, line: &[u8], at: usize) -> u32
-    requires { ⌜ (start ≤ 32768) × (at ≤ 1024) × (length (fieldFrom (now line) at) ≤ nameLimit) ⌝ }
-    ensures { λ r. ⌜ r ≡ tagOf (fieldFrom (now (line .entry)) at) * 2097152 + ((start + at) * 32 + length (fieldFrom (now (line .entry)) at)) ⌝ }
+    requires { ⌜ (start + at < placeCount) × (length (fieldFrom (now line) at) ≤ nameLimit) ⌝ }
+    ensures { λ r. ⌜ r ≡ entryOf (fieldFrom (now (line .entry)) at) (start + at) ⌝ }
 {
     let f = text::line::field(line, at);
-    let n = f.len();
-    let place = ((start + at) * 32 + n) as u32;
-    crate::names::tag(f) * 2097152 + place
+    let place = (start + at) as u32;
+    let n = f.len() as u32;
+    crate::names::tag(f) * Table::TAGGED + (place * Table::LENGTHS + n)
 }
 
 // A table without names.
@@ -28,16 +30,16 @@ pub fn empty() -> Table
         roles: 0,
     };
     Table {
-        concepts: [0; 32],
-        roles: [0; 16],
-        items: [0; 128],
+        concepts: [0; Store::CONCEPTS],
+        roles: [0; Store::ROLES],
+        items: [0; Store::ITEMS],
         counts,
     }
 }
 
 // The table with one concept more.
 pub fn with_concept(t: Table, p: u32) -> Table
-    requires { ⌜ t .counts .concepts < 32 ⌝ }
+    requires { ⌜ t .counts .concepts < conceptLimit ⌝ }
     ensures { λ r. ⌜ r ≡ withConcept t p ⌝ }
 {
     let mut r = t;
@@ -49,7 +51,7 @@ pub fn with_concept(t: Table, p: u32) -> Table
 
 // The table with one role more.
 pub fn with_role(t: Table, p: u32) -> Table
-    requires { ⌜ t .counts .roles < 16 ⌝ }
+    requires { ⌜ t .counts .roles < roleLimit ⌝ }
     ensures { λ r. ⌜ r ≡ withRole t p ⌝ }
 {
     let mut r = t;
@@ -61,7 +63,7 @@ pub fn with_role(t: Table, p: u32) -> Table
 
 // The table with one item more.
 pub fn with_item(t: Table, p: u32) -> Table
-    requires { ⌜ t .counts .items < 128 ⌝ }
+    requires { ⌜ t .counts .items < itemLimit width ⌝ }
     ensures { λ r. ⌜ r ≡ withItem t p ⌝ }
 {
     let mut r = t;

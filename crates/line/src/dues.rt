@@ -1,7 +1,7 @@
 ghost use mathlib.Core.Path.{_≡_};
 ghost use Prim.Native.Nat.{max, min};
 ghost use lib.ListN.{getD};
-ghost use Rattle.field.specs.Due.{one as oneDue, two as twoDues, three as threeDues, chain as chainDues, statementLineup, ruleLineup, lineupOf, dues, isExpr};
+ghost use Rattle.field.specs.Due.{one as oneDue, two as twoDues, three as threeDues, chain as chainDues, chainLongest, chainShortest, statementLineup, ruleLineup, lineupOf, dues, isExpr};
 use field::Due;
 use field::Form;
 use field::Lineup;
@@ -52,13 +52,13 @@ fn three(a: Due, b: Due, c: Due) -> Lineup
 
 // How many roles a chain has, in a line with so many fields.
 fn chain_count(n: usize) -> usize
-    ensures { λ r. ⌜ r ≡ max 3 (min n 5) ⌝ }
+    ensures { λ r. ⌜ r ≡ max chainShortest (min n chainLongest) ⌝ }
 {
-    if n < 3 {
-        return 3;
+    if n < Lineup::CHAIN_SHORTEST {
+        return Lineup::CHAIN_SHORTEST;
     }
-    if 5 < n {
-        return 5;
+    if Lineup::CHAIN_LONGEST < n {
+        return Lineup::CHAIN_LONGEST;
     }
     n
 }

@@ -7,6 +7,7 @@ ghost use Rattle.field.specs.own.Table.{Roomy, namesOf};
 use closure::Store;
 use field::Due;
 use field::Table;
+use rule::Rule;
 
 // What is wrong with a name to be declared that is at a place among the names, of so many, where there is room for so many.
 fn new_name(found: usize, count: usize, room: usize) -> usize
@@ -160,8 +161,8 @@ pub fn field(sheet: &[u8], t: Table, d: Due, f: &[u8]) -> usize
         Due::Role => role(sheet, t, f),
         Due::Item => item(sheet, t, f),
         Due::RoleUse => role_use(sheet, t, f),
-        Due::AtLeast => count(f, 1, 8),
-        Due::AtMost => count(f, 0, 7),
+        Due::AtLeast => count(f, 1, Rule::COUNT),
+        Due::AtMost => count(f, 0, Rule::COUNT - 1),
         Due::Expr => expr(sheet, t, f),
         Due::Nothing => 0,
     }

@@ -7,7 +7,7 @@ ghost use Rattle.field.specs.Due.{dues, isExpr};
 ghost use Rattle.field.specs.Names.{nodesOf};
 ghost use Rattle.line.specs.Fault.{none, lineLimit};
 ghost use Rattle.field.specs.own.Table.{Roomy, namesOf};
-ghost use Rattle.line.specs.own.Walk.{Step, WalkedBy, opening, pending};
+ghost use Rattle.line.specs.own.Walk.{Step, WalkedBy, opening, pending, plenty};
 ghost use Rattle.field.specs.Words.{operatorOf};
 use crate::Lead;
 use crate::Pending;
@@ -26,7 +26,7 @@ fn pend(lead: Lead, exprs: usize, own: usize) -> Pending
 
 // What is still due after a word of an expression, where m expressions were due after that one.
 fn wants(o: Operator, m: usize, own: usize) -> Pending
-    requires { ⌜ m < 1000000 ⌝ }
+    requires { ⌜ m < plenty ⌝ }
     ensures { λ r. ⌜ r ≡ opening o m own ⌝ }
 {
     match o {
@@ -56,7 +56,7 @@ fn none_left(l: Lineup, p: Pending) -> bool
             if 0 < p.exprs {
                 return false;
             }
-            if 5 <= own {
+            if Lineup::MOST <= own {
                 return true;
             }
             l.count <= own
@@ -89,7 +89,7 @@ fn next_due(l: Lineup, p: Pending) -> Due
 
 // What is still due after the next of the line-up's own dues, in a field with the word o.
 fn step_own(l: Lineup, own: usize, o: Operator) -> Pending
-    requires { ⌜ own < 1000000 ⌝ }
+    requires { ⌜ own < plenty ⌝ }
     ensures { λ r. ⌜ Step l (record { lead = Lead.None; exprs = 0; own = own }) o r ⌝ }
 {
     if crate::dues::is_expr(crate::dues::due_at(l, own)) {
@@ -100,7 +100,7 @@ fn step_own(l: Lineup, own: usize, o: Operator) -> Pending
 
 // What is still due after one field more, which has the word o.
 fn step(l: Lineup, p: Pending, o: Operator) -> Pending
-    requires { ⌜ (p .exprs < 1000000) × (p .own < 1000000) ⌝ }
+    requires { ⌜ (p .exprs < plenty) × (p .own < plenty) ⌝ }
     ensures { λ r. ⌜ Step l p o r ⌝ }
 {
     let lead = p.lead;

@@ -1,6 +1,7 @@
 ghost use mathlib.Core.Path.{_≡_};
 ghost use Prim.Native.Nat.{_+_, _≤_, _<_};
 ghost use Rattle.text.specs.Split.{partsFrom};
+ghost use Rattle.rule.specs.Form.{nodeLimit};
 ghost use Rattle.field.specs.Names.{nodesOf};
 ghost use Rattle.saying.specs.own.Nodes.{ReadsOne, Ready, WordTaken, childrenOf, fillAnd, headFields, headNodes, joining, putting, puttingAll};
 ghost use Rattle.field.specs.own.Table.{Roomy, namesOf};
@@ -12,7 +13,7 @@ use rule::Slot;
 
 // One node more.
 fn put(p: Parsed, node: Node) -> Parsed
-    requires { ⌜ p .len < 32 ⌝ }
+    requires { ⌜ p .len < nodeLimit ⌝ }
     ensures { λ r. ⌜ r ≡ putting p node ⌝ }
 {
     let mut q = p;
@@ -24,7 +25,7 @@ fn put(p: Parsed, node: Node) -> Parsed
 
 // Two nodes more.
 fn put_two(p: Parsed, a: Node, b: Node) -> Parsed
-    requires { ⌜ p .len + 2 ≤ 32 ⌝ }
+    requires { ⌜ p .len + 2 ≤ nodeLimit ⌝ }
     ensures { λ r. ⌜ r ≡ putting (putting p a) b ⌝ }
 {
     put(put(p, a), b)
@@ -32,7 +33,7 @@ fn put_two(p: Parsed, a: Node, b: Node) -> Parsed
 
 // Three nodes more.
 fn put_three(p: Parsed, a: Node, b: Node, c: Node) -> Parsed
-    requires { ⌜ p .len + 3 ≤ 32 ⌝ }
+    requires { ⌜ p .len + 3 ≤ nodeLimit ⌝ }
     ensures { λ r. ⌜ r ≡ putting (putting (putting p a) b) c ⌝ }
 {
     put(put(put(p, a), b), c)
@@ -60,7 +61,7 @@ fn head_fields(o: Operator) -> usize
 
 // The nodes that a word stands for, written after those of p; the place stays where it is.
 fn put_head(sheet: &[u8], t: Table, line: &[u8], p: Parsed, o: Operator) -> Parsed
-    requires { ⌜ Roomy t × (p .len + nodesOf o ≤ 32) ⌝ }
+    requires { ⌜ Roomy t × (p .len + nodesOf o ≤ nodeLimit) ⌝ }
     ensures { λ r. ⌜ r ≡ puttingAll p (headNodes (namesOf (now (sheet .entry)) t) o (p .len) (partsFrom 9 (now (line .entry)) (p .at))) ⌝ }
 {
     let i = p.len;
@@ -131,7 +132,7 @@ fn children(o: Operator) -> usize
 
 // The `and` at a place gets its second child: the next node.
 fn fill_and(p: Parsed, i: usize) -> Parsed
-    requires { ⌜ i < 32 ⌝ }
+    requires { ⌜ i < nodeLimit ⌝ }
     ensures { λ r. ⌜ r ≡ fillAnd p i ⌝ }
 {
     let mut q = p;
@@ -143,7 +144,7 @@ fn fill_and(p: Parsed, i: usize) -> Parsed
 
 // What stands before the nodes of the second child of a word whose nodes begin at a place.
 fn join(o: Operator, p: Parsed, i: usize) -> Parsed
-    requires { ⌜ (i + 1 < 32) × (p .len < 32) ⌝ }
+    requires { ⌜ (i + 1 < nodeLimit) × (p .len < nodeLimit) ⌝ }
     ensures { λ r. ⌜ r ≡ joining o p i ⌝ }
 {
     match o {
@@ -164,7 +165,7 @@ fn join(o: Operator, p: Parsed, i: usize) -> Parsed
 
 // The nodes of the word at the place of p, and the place past it and what it takes with it.
 fn take_word(sheet: &[u8], t: Table, line: &[u8], p: Parsed, o: Operator) -> Parsed
-    requires { ⌜ Roomy t × (p .len + nodesOf o ≤ 32) ⌝ }
+    requires { ⌜ Roomy t × (p .len + nodesOf o ≤ nodeLimit) ⌝ }
     ensures { λ r. ⌜ WordTaken (namesOf (now (sheet .entry)) t) (now (line .entry)) o p r ⌝ }
 {
     let head = put_head(sheet, t, line, p, o);

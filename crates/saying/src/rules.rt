@@ -13,10 +13,10 @@ use rule::Rule;
 use rule::Slot;
 
 // Places without nodes.
-fn blank() -> [Slot; 32]
+fn blank() -> [Slot; Rule::NODES]
     ensures { λ r. ⌜ r ≡ blankSlots ⌝ }
 {
-    [Slot { node: Node::Top }; 32]
+    [Slot { node: Node::Top }; Rule::NODES]
 }
 
 // A rule without expressions.

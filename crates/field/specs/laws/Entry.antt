@@ -12,7 +12,7 @@ use Rattle.text.specs.Split.{endOf, fieldFrom}
 use Rattle.text.specs.laws.Choice.{le-cases}
 use Rattle.text.specs.laws.Name.{name-bounds}
 use Rattle.text.specs.laws.Split.{end-ge, end-le, field-here, field-none}
-use Rattle.field.specs.own.Table.{nameAt, tagOf, tagged}
+use Rattle.field.specs.own.Table.{entryOf, lengthCount, nameAt, placeCount, tagOf, tagged, taggedCount}
 use Rattle.field.specs.laws.Tag.{tagged-own}
 
 drop-take : (a m : ℕ) (x : List ℕ) → drop a (take (a + m) x) ≡ take m (drop a x)
@@ -38,15 +38,15 @@ module _ (line : List ℕ) (at : ℕ) (good : isName (fieldFrom line at) ≡ tru
   name-end : at + length (fieldFrom line at) ≤ length line
   name-end = omega (arith, name-length, end-ge 9 line at, end-le 9 line at name-inside)
 
-  pub entry-name : (sheet : List ℕ) (start p : ℕ) → start + at < 65536 → line ≡ partOf sheet start (length line) → p ≡ tagOf (fieldFrom line at) * 2097152 + ((start + at) * 32 + length (fieldFrom line at)) → nameAt sheet p ≡ fieldFrom line at
+  pub entry-name : (sheet : List ℕ) (start p : ℕ) → start + at < placeCount → line ≡ partOf sheet start (length line) → p ≡ entryOf (fieldFrom line at) (start + at) → nameAt sheet p ≡ fieldFrom line at
   entry-name sheet start p near is e =
       let b = name-bounds (fieldFrom line at) good in
-      let d : p / 32 ≡ tagOf (fieldFrom line at) * 65536 + (start + at) = omega (arith, b .1) in
-      let q : p / 32 % 65536 ≡ start + at = omega (arith, d) in
-      let r : p % 32 ≡ length (fieldFrom line at) = omega (arith, b .1) in
-      let k : p / 2097152 ≡ tagOf (fieldFrom line at) = omega (arith, b .1) in
-      let f : partOf sheet (p / 32 % 65536) (p % 32) ≡ fieldFrom line at =
+      let d : p / lengthCount ≡ tagOf (fieldFrom line at) * placeCount + (start + at) = omega (arith, b .1) in
+      let q : p / lengthCount % placeCount ≡ start + at = omega (arith, d) in
+      let r : p % lengthCount ≡ length (fieldFrom line at) = omega (arith, b .1) in
+      let k : p / taggedCount ≡ tagOf (fieldFrom line at) = omega (arith, b .1) in
+      let f : partOf sheet (p / lengthCount % placeCount) (p % lengthCount) ≡ fieldFrom line at =
       rw (q, r)
       (sym (part-part sheet start (length line) at (length (fieldFrom line at)) name-end)
       ∙ rw (← is) (rw name-length (sym (field-here line at name-inside)))) in
-      ap (tagged (p / 2097152)) f ∙ tagged-own (p / 2097152) (fieldFrom line at) (sym k)
+      ap (tagged (p / taggedCount)) f ∙ tagged-own (p / taggedCount) (fieldFrom line at) (sym k)

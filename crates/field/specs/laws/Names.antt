@@ -2,7 +2,7 @@
 use mathlib.Core.Path.{_≡_, refl, sym}
 use mathlib.Core.Bool.{true, false, not}
 use mathlib.Core.List.{List}
-use Prim.Native.Nat.{ℕ, zero, suc, _≤_, min}
+use Prim.Native.Nat.{ℕ, zero, suc, _-_, _≤_, min}
 use native.Mathlib.Omega.{arith}
 use borrow.Author.Tests.{eq-eqb, ne-eqb}
 use lib.Dec.{leb, ltb}
@@ -12,6 +12,7 @@ use Rattle.text.specs.Bytes.{partOf, place}
 use Rattle.text.specs.Date.{digit, dateShaped}
 use Rattle.text.specs.Name.{isName}
 use Rattle.closure.specs.Layout.{conceptLimit, roleLimit, itemLimit, width}
+use Rattle.rule.specs.Form.{countLimit}
 use Rattle.field.specs.declared.Due.the-variants as due
 use Rattle.field.specs.Names.{Names, reserved, inverted, plain, countOf, isCount, fault, newFault, nameFault, fieldFault, lowerFault}
 use Rattle.field.specs.own.Table.{Placed, entered}
@@ -115,11 +116,11 @@ module _ (n : Names) (f : Field) where
   unfolding fieldFault
   item-name = refl
 
-  pub least-count : fault (not (isCount 1 8 f)) 20 0 ≡ fieldFault n due.AtLeast f
+  pub least-count : fault (not (isCount 1 countLimit f)) 20 0 ≡ fieldFault n due.AtLeast f
   unfolding fieldFault
   least-count = refl
 
-  pub most-count : fault (not (isCount 0 7 f)) 20 0 ≡ fieldFault n due.AtMost f
+  pub most-count : fault (not (isCount 0 (countLimit - 1) f)) 20 0 ≡ fieldFault n due.AtMost f
   unfolding fieldFault
   most-count = refl
 

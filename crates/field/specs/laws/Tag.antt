@@ -9,7 +9,7 @@ use borrow.Author.Tests.{eq-eqb, ne-eqb}
 use lib.ListN.{length, getD}
 use Rattle.text.specs.Bytes.{same}
 use Rattle.text.specs.laws.Bytes.{same-length, same-true}
-use Rattle.field.specs.own.Table.{tagOf, tagged}
+use Rattle.field.specs.own.Table.{tagCount, tagOf, tagged}
 
 -- the tag of no byte, of one, and of more
 pub tag-none : (w : List ℕ) → length w ≡ 0 → 0 ≡ tagOf w
@@ -17,11 +17,11 @@ unfolding tagOf
 tag-none [] e = refl
 tag-none (b ∷ w) e = absurd (omega arith)
 
-pub tag-one : (w : List ℕ) → length w ≡ 1 → getD w (length w - 1) 0 * 17 % 2048 ≡ tagOf w
+pub tag-one : (w : List ℕ) → length w ≡ 1 → (getD w (length w - 1) 0 + 16 * getD w (length w - 1) 0) % tagCount ≡ tagOf w
 unfolding tagOf
-tag-one w e = rw e (let z : getD w 0 0 * 17 ≡ getD w 0 0 + 16 * getD w 0 0 = omega arith in rw z)
+tag-one w e = rw e
 
-pub tag-more : (w : List ℕ) → (getD w (length w - 1) 0 + 16 * getD w (length w - 2) 0) % 2048 ≡ tagOf w
+pub tag-more : (w : List ℕ) → (getD w (length w - 1) 0 + 16 * getD w (length w - 2) 0) % tagCount ≡ tagOf w
 unfolding tagOf
 tag-more w = refl
 

@@ -16,17 +16,34 @@ use Rattle.field.specs.declared.Table.{Table}
 use Rattle.field.specs.Due.{dues, fits, isExpr, wanted}
 use Rattle.field.specs.Names.{Names, fieldFaults, nodesIn}
 
--- the tag of a name: a number below 2,048 made of its last two bytes, by which most other names are told from it
+-- how many tags, places and lengths an entry can tell, and how many entries have the same tag
+abbrev pub tagCount : ℕ
+tagCount = 2048
+
+abbrev pub placeCount : ℕ
+placeCount = 65536
+
+abbrev pub lengthCount : ℕ
+lengthCount = 32
+
+abbrev pub taggedCount : ℕ
+taggedCount = placeCount * lengthCount
+
+-- the tag of a name: made of its last two bytes, by which most other names are told from it
 unfoldable pub tagOf : List ℕ → ℕ
-tagOf w = (getD w (length w - 1) 0 + 16 * getD w (length w - 2) 0) % 2048
+tagOf w = (getD w (length w - 1) 0 + 16 * getD w (length w - 2) 0) % tagCount
 
 -- the bytes w under their own tag, and none under another
 unfoldable pub tagged : ℕ → List ℕ → List ℕ
 tagged k w = cond (eqb (tagOf w) k) w []
 
+-- the entry of a name at a place
+abbrev pub entryOf : List ℕ → ℕ → ℕ
+entryOf w place = tagOf w * taggedCount + (place * lengthCount + length w)
+
 -- the name of an entry, which has its tag, its place and its length
 abbrev pub nameAt : List ℕ → ℕ → List ℕ
-nameAt sheet p = tagged (p / 2097152) (partOf sheet (p / 32 % 65536) (p % 32))
+nameAt sheet p = tagged (p / taggedCount) (partOf sheet (p / lengthCount % placeCount) (p % lengthCount))
 
 -- the names of the first n entries
 abbrev pub entered : List ℕ → ℕ → List ℕ → List (List ℕ)

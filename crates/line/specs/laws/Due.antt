@@ -17,7 +17,7 @@ use Rattle.field.specs.declared.Lineup.{Lineup}
 use Rattle.field.specs.declared.Operator.{Operator}
 use Rattle.field.specs.declared.Operator.the-variants as operator
 use Rattle.line.specs.declared.Pending.{Pending}
-use Rattle.field.specs.Due.{dues, isExpr, wanted}
+use Rattle.field.specs.Due.{dues, isExpr, lineupLimit, wanted}
 use Rattle.line.specs.Fault.{none}
 use Rattle.line.specs.own.Walk.{before, pending, opening, Stepped, Step}
 
@@ -31,7 +31,7 @@ module _ (l : Lineup) (k : ℕ) where
   pub due-past : l .count ≤ k → due.Nothing ≡ getD (dues l) k due.Nothing
   due-past h = sym (List·getD-eq-default (dues l) due.Nothing (rw length-take (omega arith)))
 
-  pub due-far : 5 ≤ k → due.Nothing ≡ getD (dues l) k due.Nothing
+  pub due-far : lineupLimit ≤ k → due.Nothing ≡ getD (dues l) k due.Nothing
   due-far h = sym (List·getD-eq-default (dues l) due.Nothing (rw length-take (omega arith)))
 
   pub due-here : (j : ℕ) → k ≡ j → k < l .count → getD (five l) j due.Nothing ≡ getD (dues l) k due.Nothing
@@ -72,13 +72,13 @@ module _ (l : Lineup) (p : Pending) where
   none-some q = rw q
 
   module _ (e : p .lead ≡ lead.None) (h : p .exprs ≤ 0) where
-    pub none-far : 5 ≤ p .own → true ≡ none (pending l p)
-    none-far g = rw (pend-own e h, none-drop, length-take) (sym (le-leb (min (l .count) 5) (p .own) (omega arith)))
+    pub none-far : lineupLimit ≤ p .own → true ≡ none (pending l p)
+    none-far g = rw (pend-own e h, none-drop, length-take) (sym (le-leb (min (l .count) lineupLimit) (p .own) (omega arith)))
 
-    pub none-own : p .own < 5 → leb (l .count) (p .own) ≡ none (pending l p)
+    pub none-own : p .own < lineupLimit → leb (l .count) (p .own) ≡ none (pending l p)
     none-own g = rw (pend-own e h, none-drop, length-take)
-        (le-cases (l .count) (p .own) (λ q. le-leb _ _ q ∙ sym (le-leb (min (l .count) 5) (p .own) (omega arith)))
-        (λ q. lt-leb _ _ q ∙ sym (lt-leb (min (l .count) 5) (p .own) (omega arith))))
+        (le-cases (l .count) (p .own) (λ q. le-leb _ _ q ∙ sym (le-leb (min (l .count) lineupLimit) (p .own) (omega arith)))
+        (λ q. lt-leb _ _ q ∙ sym (lt-leb (min (l .count) lineupLimit) (p .own) (omega arith))))
 
     pub next-own : getD (dues l) (p .own) due.Nothing ≡ getD (pending l p) 0 due.Nothing
     next-own = let k : p .own + 0 ≡ p .own = omega arith in rw (pend-own e h, getD-drop, k)

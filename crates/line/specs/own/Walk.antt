@@ -20,6 +20,10 @@ use Rattle.line.specs.declared.Walked.{Walked}
 use Rattle.field.specs.Due.{dues, fits, isExpr, wanted}
 use Rattle.field.specs.Names.{Names, fieldFaults, nodesIn}
 
+-- more than the fields of any line: below it the walk counts what is due
+abbrev pub plenty : ℕ
+plenty = 1000000
+
 -- what the lead stands for
 abbrev pub leading : Lead → List Due
 leading lead.None = []

@@ -18,7 +18,7 @@ use Rattle.field.specs.declared.Due.{Due}
 use Rattle.field.specs.declared.Due.the-variants as due
 use Rattle.field.specs.declared.RuleWord.{RuleWord}
 use Rattle.field.specs.declared.RuleWord.the-variants as rule
-use Rattle.field.specs.Due.{dues, fits, isExpr, ruleLineup}
+use Rattle.field.specs.Due.{chainLongest, chainShortest, dues, fits, isExpr, ruleLineup}
 use Rattle.field.specs.Names.{Names, countsOf, fieldFault, nodesIn, plain}
 use Rattle.field.specs.Words.{at, Field}
 use Rattle.saying.specs.Read.{bare, itemOf, laid, nodesAt, readExpr, ruleOf, size, withOne, withTwo}
@@ -154,7 +154,7 @@ module _ (n : Names) where
       bare-good (countsOf n) _ (omega arith, omega arith)
       ((λ h. role-in fs 0 (x .0)), (λ h. role-in fs 1 (y .0)), (λ h. role-in fs 2 (y .1)), (λ h. role-in fs 3 (y .2)), role-in fs 4 (y .3))
   chain-rule-good (a ∷ b ∷ c ∷ d ∷ e ∷ f ∷ fs) r =
-      let z : max 3 (min (length (a ∷ b ∷ c ∷ d ∷ e ∷ f ∷ fs)) 5) ≡ 5 = omega arith in
+      let z : max chainShortest (min (length (a ∷ b ∷ c ∷ d ∷ e ∷ f ∷ fs)) chainLongest) ≡ chainLongest = omega arith in
       let q = rw z at (r .fit) in
       absurd (true≢false (sym q))
 

@@ -252,7 +252,7 @@ module _ (n : Names) (line : List ℕ) (left : ℕ) (p q : Parsed) (o : Operator
       spare = omega (arith, wants .1, two-count, begins .nodes, expr-some (rd .dues) (first .rest) (begins .fit), rd .room)
 
       -- what joining asks
-      pub join-ready : (p .len + 1 < 32) × (r .len < 32)
+      pub join-ready : (p .len + 1 < nodeLimit) × (r .len < nodeLimit)
       join-ready = (omega (arith, spare, nodes-some o, size-some (first .expr)), omega (arith, spare, first-len, head-few n o (p .len) fs))
 
       module _ (s : Parsed) (j : s ≡ joining o r (p .len)) where

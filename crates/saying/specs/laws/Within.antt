@@ -2,7 +2,7 @@
 use mathlib.Core.Path.{_≡_, refl, sym}
 use mathlib.Core.Bool.{Bool, true, false, cond, not, true≢false}
 use mathlib.Core.List.{List, [], _∷_, _++_}
-use Prim.Native.Nat.{ℕ, zero, suc, _≤_, _<_}
+use Prim.Native.Nat.{ℕ, zero, suc, _-_, _≤_, _<_}
 use native.Mathlib.Omega.{arith}
 use borrow.Author.Tests.{leb-true, ltb-true, not-false}
 use lib.Dec.{eqb, leb, ltb}
@@ -78,13 +78,13 @@ module _ (n : Names) (f : Field) where
       go true r = between-bounds a (countOf f) c r
       go false r = absurd (true≢false (sym r))
 
-  least-bounds : fieldFault n due.AtLeast f ≡ 0 → (1 ≤ countOf f) × (countOf f ≤ 8)
+  least-bounds : fieldFault n due.AtLeast f ≡ 0 → (1 ≤ countOf f) × (countOf f ≤ countLimit)
   unfolding fieldFault
-  least-bounds h = count-bounds 1 8 (not-false _ (fault-none (not (isCount 1 8 f)) 19 0 h .0))
+  least-bounds h = count-bounds 1 countLimit (not-false _ (fault-none (not (isCount 1 countLimit f)) 19 0 h .0))
 
-  most-bounds : fieldFault n due.AtMost f ≡ 0 → (0 ≤ countOf f) × (countOf f ≤ 7)
+  most-bounds : fieldFault n due.AtMost f ≡ 0 → (0 ≤ countOf f) × (countOf f ≤ countLimit - 1)
   unfolding fieldFault
-  most-bounds h = count-bounds 0 7 (not-false _ (fault-none (not (isCount 0 7 f)) 19 0 h .0))
+  most-bounds h = count-bounds 0 (countLimit - 1) (not-false _ (fault-none (not (isCount 0 (countLimit - 1) f)) 19 0 h .0))
 
 -- ---- reading
 

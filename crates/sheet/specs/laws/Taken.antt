@@ -2,7 +2,7 @@
 use mathlib.Core.Path.{_≡_, refl, _∙_, subst}
 use mathlib.Core.Bool.{true, false}
 use mathlib.Core.List.{List, [], _∷_}
-use Prim.Native.Nat.{ℕ, _+_, _*_, _≤_, _<_}
+use Prim.Native.Nat.{ℕ, _+_, _≤_, _<_}
 use native.Mathlib.Omega.{arith}
 use borrow.Author.Tests.{leb-false}
 use lib.ListN.{length}
@@ -21,13 +21,13 @@ use Rattle.field.specs.declared.RuleWord.{RuleWord}
 use Rattle.field.specs.declared.StatementWord.{StatementWord}
 use Rattle.field.specs.declared.Table.{Table}
 use Rattle.field.specs.Due.{dues, isExpr, lineupOf}
-use Rattle.line.specs.Fault.{begun, lineLimit, none, ruleLimit, sheetLimit}
+use Rattle.line.specs.Fault.{begun, lineLimit, none, ruleLimit}
 use Rattle.field.specs.Names.{fieldFault}
 use Rattle.field.specs.Words.{at, bodyOf, formOf}
 use Rattle.sheet.specs.Said.{Said, lineSaid, saying}
 use Rattle.saying.specs.Read.{statementOf}
 use Rattle.sheet.specs.own.Stands.{Begins, Stands, Takes}
-use Rattle.field.specs.own.Table.{Roomy, nameAt, namesOf, tagOf, withConcept, withItem, withRole}
+use Rattle.field.specs.own.Table.{Roomy, entryOf, nameAt, namesOf, placeCount, withConcept, withItem, withRole}
 use Rattle.line.specs.laws.Accepted.{Accepted, line-accepted}
 use Rattle.field.specs.laws.Right.{concept-new, item-new, right-first, role-new}
 use Rattle.saying.specs.laws.Stated.{statement-within}
@@ -70,11 +70,11 @@ module _ {sheet : List ℕ} {t : Table} {m : Marks} {s : List ℕ} {start : ℕ}
 
   -- its entry
   module _ (good : isName (fieldFrom line from) ≡ true) where
-    entry-ready : (start ≤ sheetLimit) × (from ≤ 1024) × (length (fieldFrom line from) ≤ nameLimit)
-    entry-ready = (tk .near, omega (arith, name-inside line from good, short), name-bounds (fieldFrom line from) good .1)
+    entry-ready : (start + from < placeCount) × (length (fieldFrom line from) ≤ nameLimit)
+    entry-ready = (omega (arith, tk .near, name-inside line from good, short), name-bounds (fieldFrom line from) good .1)
 
-    entry-is : (p : ℕ) → p ≡ tagOf (fieldFrom line from) * 2097152 + ((start + from) * 32 + length (fieldFrom line from)) → nameAt sheet p ≡ at 0 (partsFrom 9 line from)
-    entry-is p e = entry-name line from good sheet start p (omega (arith, entry-ready .0, entry-ready .1)) (tk .inside) e ∙ nth-first line from 0 (omega arith)
+    entry-is : (p : ℕ) → p ≡ entryOf (fieldFrom line from) (start + from) → nameAt sheet p ≡ at 0 (partsFrom 9 line from)
+    entry-is p e = entry-name line from good sheet start p (entry-ready .0) (tk .inside) e ∙ nth-first line from 0 (omega arith)
 
   room : Roomy t
   room = tk .stands .room
@@ -83,39 +83,39 @@ module _ {sheet : List ℕ} {t : Table} {m : Marks} {s : List ℕ} {start : ℕ}
     concept-name : (isName (fieldFrom line from) ≡ true) × (length (namesOf sheet t .concepts) < conceptLimit)
     concept-name = concept-new (namesOf sheet t) (fieldFrom line from) (new-fault due.NewConcept (rw told) refl)
 
-    pub concept-entry : (start ≤ sheetLimit) × (from ≤ 1024) × (length (fieldFrom line from) ≤ nameLimit)
+    pub concept-entry : (start + from < placeCount) × (length (fieldFrom line from) ≤ nameLimit)
     concept-entry = entry-ready (concept-name .0)
 
     pub concept-room : t .counts .concepts < conceptLimit
     concept-room = omega (arith, concept-name .1, entered-length sheet (t .counts .concepts) (t .concepts) (omega (arith, places .concepts, room .concepts)))
 
-    pub concept-taken : (p : ℕ) → p ≡ tagOf (fieldFrom line from) * 2097152 + ((start + from) * 32 + length (fieldFrom line from)) → (k : ℕ) (x : Said) → Stands sheet t m s x → Stands sheet (withConcept t p) m s (lineSaid k x line)
+    pub concept-taken : (p : ℕ) → p ≡ entryOf (fieldFrom line from) (start + from) → (k : ℕ) (x : Said) → Stands sheet t m s x → Stands sheet (withConcept t p) m s (lineSaid k x line)
     concept-taken p e k x st = by-form k x (rw told (stands-concept places st k (partsFrom 9 line from) p (entry-is (concept-name .0) p e) (rw told at (accepted .started)) concept-room))
 
   module _ (told : f ≡ form.Role) where
     role-name : (isName (fieldFrom line from) ≡ true) × (length (namesOf sheet t .roles) < roleLimit)
     role-name = role-new (namesOf sheet t) (fieldFrom line from) (new-fault due.NewRole (rw told) refl)
 
-    pub role-entry : (start ≤ sheetLimit) × (from ≤ 1024) × (length (fieldFrom line from) ≤ nameLimit)
+    pub role-entry : (start + from < placeCount) × (length (fieldFrom line from) ≤ nameLimit)
     role-entry = entry-ready (role-name .0)
 
     pub role-room : t .counts .roles < roleLimit
     role-room = omega (arith, role-name .1, entered-length sheet (t .counts .roles) (t .roles) (omega (arith, places .roles, room .roles)))
 
-    pub role-taken : (p : ℕ) → p ≡ tagOf (fieldFrom line from) * 2097152 + ((start + from) * 32 + length (fieldFrom line from)) → (k : ℕ) (x : Said) → Stands sheet t m s x → Stands sheet (withRole t p) m s (lineSaid k x line)
+    pub role-taken : (p : ℕ) → p ≡ entryOf (fieldFrom line from) (start + from) → (k : ℕ) (x : Said) → Stands sheet t m s x → Stands sheet (withRole t p) m s (lineSaid k x line)
     role-taken p e k x st = by-form k x (rw told (stands-role places st k (partsFrom 9 line from) p (entry-is (role-name .0) p e) (rw told at (accepted .started)) role-room))
 
   module _ (told : f ≡ form.Item) where
     item-name : (isName (fieldFrom line from) ≡ true) × (length (namesOf sheet t .items) < itemLimit width)
     item-name = item-new (namesOf sheet t) (fieldFrom line from) (new-fault due.NewItem (rw told) refl)
 
-    pub item-entry : (start ≤ sheetLimit) × (from ≤ 1024) × (length (fieldFrom line from) ≤ nameLimit)
+    pub item-entry : (start + from < placeCount) × (length (fieldFrom line from) ≤ nameLimit)
     item-entry = entry-ready (item-name .0)
 
     pub item-room : t .counts .items < itemLimit width
     item-room = omega (arith, item-name .1, entered-length sheet (t .counts .items) (t .items) (omega (arith, places .items, room .items)))
 
-    pub item-taken : (p : ℕ) → p ≡ tagOf (fieldFrom line from) * 2097152 + ((start + from) * 32 + length (fieldFrom line from)) → (k : ℕ) (x : Said) → Stands sheet t m s x → Stands sheet (withItem t p) m s (lineSaid k x line)
+    pub item-taken : (p : ℕ) → p ≡ entryOf (fieldFrom line from) (start + from) → (k : ℕ) (x : Said) → Stands sheet t m s x → Stands sheet (withItem t p) m s (lineSaid k x line)
     item-taken p e k x st = by-form k x (rw told (stands-item places st k (partsFrom 9 line from) p (entry-is (item-name .0) p e) (rw told at (accepted .started)) item-room))
 
   -- the numbers of a statement

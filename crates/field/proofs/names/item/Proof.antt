@@ -3,6 +3,7 @@ use native.Mathlib.Omega.{arith}
 use mathlib.Core.Path.{_≡_, sym}
 use lib.ListN.{length}
 use lib.Seq.{length-take-le}
+use Rattle.closure.specs.Layout.{itemLimit, width}
 use Rattle.field.specs.laws.Names.{entered-length}
 use borrow.Author.Needs.{needs}
 use Rattle.field.proofs.names.item.Statement.{statement}
@@ -10,18 +11,18 @@ use Rattle.field.proofs.names.item.Tie as tie
 
 array-share-prefix-entries : tie.Need-array-share-prefix-entries
 array-share-prefix-entries c =
-    let e : length (c .before .before .before .before .args .t .items) ≡ 128 = search needs in omega (arith, c .before .before .before .before .pre .items)
+    let e : length (c .before .before .before .before .args .t .items) ≡ itemLimit width = search needs in omega (arith, c .before .before .before .before .pre .items)
 
 slice-aggregate-place-in : tie.Need-slice-aggregate-place-in
 slice-aggregate-place-in c =
-    let e : length (c .before .before .before .before .before .args .t .items) ≡ 128 = search needs in sym (length-take-le _ _ (omega (arith, c .before .before .before .before .before .pre .items)))
+    let e : length (c .before .before .before .before .before .args .t .items) ≡ itemLimit width = search needs in sym (length-take-le _ _ (omega (arith, c .before .before .before .before .before .pre .items)))
 
 place-in-requires : tie.Need-place-in-requires
 place-in-requires c κs = search needs
 
 returns : tie.Need-returns
 returns c =
-    let e : length (c .before .before .before .before .before .before .args .t .items) ≡ 128 = search needs in let x = c .before .before .before .before .before .before .args in record { place = c .place-in .ensures; count = entered-length (x .sheet .now) (x .t .counts .items) (x .t .items) (omega (arith, c .before .before .before .before .before .before .pre .items)) }
+    let e : length (c .before .before .before .before .before .before .args .t .items) ≡ itemLimit width = search needs in let x = c .before .before .before .before .before .before .args in record { place = c .place-in .ensures; count = entered-length (x .sheet .now) (x .t .counts .items) (x .t .items) (omega (arith, c .before .before .before .before .before .before .pre .items)) }
 
 pub item-spec : {M : Type 1} → statement M
 item-spec =

@@ -22,6 +22,9 @@ cast-last c = omega (arith, c .shared-slice-known .given (length (c .before .bef
 mul-result : tie.Need-mul-result
 mul-result c = omega (arith, c .before .shared-slice-known .given (length (c .before .before .before .args .w .now) - 1) .fits)
 
+add-result : tie.Need-add-result
+add-result c = omega (arith, c .before .shared-slice-known .given (length (c .before .before .before .args .w .now) - 1) .fits)
+
 returns-2 : tie.Need-returns-2
 returns-2 c = (tag-one (c .before .before .before .args .w .now) (c .if2 .taken), omega arith)
 
@@ -37,8 +40,8 @@ cast-before c = omega (arith, c .shared-slice-known2 .given (length (c .before .
 mul-result-2 : tie.Need-mul-result-2
 mul-result-2 c = omega (arith, c .shared-slice-known2 .given (length (c .before .before .before .before .args .w .now) - 2) .fits)
 
-add-result : tie.Need-add-result
-add-result c = let n = length (c .before .before .before .before .args .w .now) in omega (arith, c .shared-slice-known2 .given (n - 1) .fits, c .shared-slice-known2 .given (n - 2) .fits)
+add-result-2 : tie.Need-add-result-2
+add-result-2 c = let n = length (c .before .before .before .before .args .w .now) in omega (arith, c .shared-slice-known2 .given (n - 1) .fits, c .shared-slice-known2 .given (n - 2) .fits)
 
 returns-3 : tie.Need-returns-3
 returns-3 c = (tag-more (c .before .before .before .before .args .w .now), omega arith)
@@ -52,10 +55,11 @@ tag-spec =
     shared-slice-read-last
     cast-last
     mul-result
+    add-result
     returns-2
     sub-before
     shared-slice-read-before
     cast-before
     mul-result-2
-    add-result
+    add-result-2
     returns-3)

@@ -11,16 +11,13 @@ field-requires : tie.Need-field-requires
 field-requires c κs = search needs
 
 add-place : tie.Need-add-place
-add-place c = search needs
-
-mul-place : tie.Need-mul-place
-mul-place c = search needs
-
-add-place-2 : tie.Need-add-place-2
-add-place-2 c = search needs
+add-place c = omega (arith, c .before .before .pre .0)
 
 cast-place : tie.Need-cast-place
-cast-place c = omega (arith, ap length (c .field .ensures), c .before .before .pre .2)
+cast-place c = omega (arith, c .before .before .pre .0)
+
+cast-n : tie.Need-cast-n
+cast-n c = omega (arith, ap length (c .field .ensures), c .before .before .pre .1)
 
 tag-requires : tie.Need-tag-requires
 tag-requires c κs = search needs
@@ -28,8 +25,14 @@ tag-requires c κs = search needs
 mul-result : tie.Need-mul-result
 mul-result c = omega (arith, c .tag .ensures .1)
 
+mul-result-2 : tie.Need-mul-result-2
+mul-result-2 c = omega (arith, c .before .before .before .pre .0)
+
 add-result : tie.Need-add-result
-add-result c = omega (arith, c .tag .ensures .1, ap length (c .before .field .ensures), c .before .before .before .pre .2)
+add-result c = omega (arith, ap length (c .before .field .ensures), c .before .before .before .pre .0, c .before .before .before .pre .1)
+
+add-result-2 : tie.Need-add-result-2
+add-result-2 c = omega (arith, c .tag .ensures .1, ap length (c .before .field .ensures), c .before .before .before .pre .0, c .before .before .before .pre .1)
 
 returns : tie.Need-returns
 returns c = let f = c .before .field .ensures in omega (arith, c .tag .ensures .0 ∙ ap tagOf f, ap length f)
@@ -40,10 +43,11 @@ entry-spec =
     (tie.spec
     field-requires
     add-place
-    mul-place
-    add-place-2
     cast-place
+    cast-n
     tag-requires
     mul-result
+    mul-result-2
     add-result
+    add-result-2
     returns)

@@ -56,6 +56,9 @@ count-requires c κs = search needs
 enum-told-9 : tie.Need-enum-told-9
 enum-told-9 c = search needs
 
+sub-count : tie.Need-sub-count
+sub-count c = search needs
+
 count-requires-2 : tie.Need-count-requires-2
 count-requires-2 c κs = search needs
 
@@ -122,6 +125,7 @@ field-spec =
     enum-told-8
     count-requires
     enum-told-9
+    sub-count
     count-requires-2
     enum-told-10
     expr-requires
