@@ -15,7 +15,7 @@ use Rattle.field.specs.declared.Due.the-variants.{NewConcept, NewRole, N
 use Rattle.field.specs.declared.Operator.{Operator}
 use Rattle.field.specs.declared.Operator.the-variants as operator
 use Rattle.field.specs.Due.{isExpr, next}
-use Rattle.field.specs.Words.{Field, operatorWords, operatorOf}
+use Rattle.field.specs.Words.{Field, operatorOf, operatorWords, spellings}
 
 -- the names declared so far, of each kind in order of declaration
 pub record Names : Type 0 where
@@ -33,7 +33,7 @@ declared f names = ltb (place f names) (length names)
 
 -- the field is one of the eleven words of expressions
 abbrev pub reserved : Field → Bool
-reserved f = declared f operatorWords
+reserved f = declared f (spellings operatorWords)
 
 -- `~` stands before the role
 abbrev pub inverted : Field → Bool

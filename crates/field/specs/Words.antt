@@ -3,8 +3,7 @@ use mathlib.Core.Bool.{Bool, cond}
 use mathlib.Core.List.{List, [], _∷_}
 use Prim.Native.Nat.{ℕ}
 use lib.ListN.{getD, drop}
-use Rattle.text.specs.Bytes.{bytes, same, place}
-use Rattle.text.specs.Split.{words}
+use Rattle.text.specs.Bytes.{bytes, same}
 use Rattle.field.specs.declared.Form.{Form}
 use Rattle.field.specs.declared.Form.the-variants as form
 use Rattle.field.specs.declared.Operator.{Operator}
@@ -22,34 +21,45 @@ Field = List ℕ
 abbrev pub at : ℕ → List Field → Field
 at i fs = getD fs i []
 
--- the eleven words of expressions
-abbrev pub operators : List Operator
-operators =
-    operator.And ∷ operator.Or ∷ operator.Not ∷ operator.Some ∷ operator.All ∷ operator.AtLeast ∷ operator.AtMost ∷ operator.SelfOf ∷ operator.One ∷ operator.Top ∷ operator.Bot ∷ []
+-- of words, each with what it stands for: the words alone
+abbrev pub spellings : {A : Type 0} → List (Field × A) → List Field
+spellings [] = []
+spellings (p ∷ ps) = p .0 ∷ spellings ps
 
-abbrev pub operatorWords : List Field
-operatorWords = words "and or not some all atleast atmost self one top bot"
+-- what a field stands for: what the word does that it is, or else `none`
+abbrev pub meaning : {A : Type 0} → A → List (Field × A) → Field → A
+meaning none [] f = none
+meaning none (p ∷ ps) f = cond (same f (p .0)) (p .1) (meaning none ps f)
+
+-- the eleven words of expressions
+abbrev pub operatorWords : List (Field × Operator)
+operatorWords =
+    (bytes "and", operator.And) ∷ (bytes "or", operator.Or) ∷ (bytes "not", operator.Not) ∷ (bytes "some", operator.Some) ∷ (bytes "all", operator.All)
+    ∷ (bytes "atleast", operator.AtLeast) ∷ (bytes "atmost", operator.AtMost) ∷ (bytes "self", operator.SelfOf) ∷ (bytes "one", operator.One)
+    ∷ (bytes "top", operator.Top) ∷ (bytes "bot", operator.Bot) ∷ []
 
 unfoldable pub operatorOf : Field → Operator
-operatorOf f = getD operators (place f operatorWords) operator.None
+operatorOf f = meaning operator.None operatorWords f
 
 -- the words of declarations and statements
-abbrev pub lineForms : List Form
-lineForms =
-    form.Concept ∷ form.Role ∷ form.Item ∷ form.Statement statement.In ∷ form.Statement statement.Rel ∷ form.Statement statement.Same
-    ∷ form.Statement statement.Under ∷ form.Statement statement.RoleUnder ∷ []
+abbrev pub lineWords : List (Field × Form)
+lineWords =
+    (bytes "concept", form.Concept) ∷ (bytes "role", form.Role) ∷ (bytes "item", form.Item)
+    ∷ (bytes "in", form.Statement statement.In) ∷ (bytes "rel", form.Statement statement.Rel) ∷ (bytes "same", form.Statement statement.Same)
+    ∷ (bytes "under", form.Statement statement.Under) ∷ (bytes "runder", form.Statement statement.RoleUnder) ∷ []
 
 unfoldable pub lineForm : Field → Form
-lineForm f = getD lineForms (place f (words "concept role item in rel same under runder")) form.Unknown
+lineForm f = meaning form.Unknown lineWords f
 
 -- the words of rules
-abbrev pub ruleForms : List Form
-ruleForms =
-    form.Rule rule.Sub ∷ form.Rule rule.RoleSub ∷ form.Rule rule.Chain ∷ form.Rule rule.Ref ∷ form.Rule rule.Irr ∷ form.Rule rule.Dis ∷ form.Rule rule.In ∷ form.Rule rule.Rel
-    ∷ form.Rule rule.NoRel ∷ form.Rule rule.Same ∷ form.Rule rule.Differ ∷ []
+abbrev pub ruleWords : List (Field × Form)
+ruleWords =
+    (bytes "sub", form.Rule rule.Sub) ∷ (bytes "rsub", form.Rule rule.RoleSub) ∷ (bytes "chain", form.Rule rule.Chain) ∷ (bytes "ref", form.Rule rule.Ref)
+    ∷ (bytes "irr", form.Rule rule.Irr) ∷ (bytes "dis", form.Rule rule.Dis) ∷ (bytes "in", form.Rule rule.In) ∷ (bytes "rel", form.Rule rule.Rel)
+    ∷ (bytes "norel", form.Rule rule.NoRel) ∷ (bytes "same", form.Rule rule.Same) ∷ (bytes "differ", form.Rule rule.Differ) ∷ []
 
 unfoldable pub ruleForm : Field → Form
-ruleForm f = getD ruleForms (place f (words "sub rsub chain ref irr dis in rel norel same differ")) form.Unknown
+ruleForm f = meaning form.Unknown ruleWords f
 
 -- the field is the word `rule`
 abbrev pub isRule : Field → Bool

@@ -23,6 +23,11 @@ pub enum Operator {
     None,
 }
 
+impl Operator {
+    // How many words there are.
+    pub const WORDS: usize = 11;
+}
+
 // The words of statements.
 pub enum StatementWord {
     In,

@@ -1,19 +1,27 @@
 ghost use mathlib.Core.Path.{_≡_};
 ghost use lib.ListN.{length};
+ghost use Rattle.text.specs.Bytes.{place};
 ghost use Rattle.text.specs.Split.{fields, partsFrom};
 ghost use Rattle.field.specs.Names.{reserved as reservedOf};
-ghost use Rattle.field.specs.Words.{operatorOf, lineForm, ruleForm, isRule, formOf, bodyOf, sectionOf};
+ghost use Rattle.field.specs.Words.{bodyOf, formOf, isRule, lineForm, operatorOf, operatorWords, ruleForm, sectionOf, spellings};
 use crate::Form;
 use crate::Operator;
 use crate::RuleWord;
 use crate::Section;
 use crate::StatementWord;
 
+// The place of a field among the words of expressions, from 0; how many there are where it is none of them.
+fn operator_place(f: &[u8]) -> usize
+    ensures { λ r. ⌜ r ≡ place (now (f .entry)) (spellings operatorWords) ⌝ }
+{
+    text::part::place(f, b"and or not some all atleast atmost self one top bot")
+}
+
 // The word of an expression that a field is.
 pub fn operator(f: &[u8]) -> Operator
     ensures { λ r. ⌜ r ≡ operatorOf (now (f .entry)) ⌝ }
 {
-    let k = text::part::place(f, b"and or not some all atleast atmost self one top bot");
+    let k = operator_place(f);
     match k {
         0 => Operator::And,
         1 => Operator::Or,
@@ -34,7 +42,7 @@ pub fn operator(f: &[u8]) -> Operator
 pub fn reserved(f: &[u8]) -> bool
     ensures { λ r. ⌜ r ≡ reservedOf (now (f .entry)) ⌝ }
 {
-    text::part::place(f, b"and or not some all atleast atmost self one top bot") < 11
+    operator_place(f) < Operator::WORDS
 }
 
 // The declaration or statement that a first word begins.

@@ -1,53 +1,118 @@
 -- Laws of words and of what a line is. Assumes nothing.
 use mathlib.Core.Path.{_≡_, refl, sym, _∙_, ap}
-use mathlib.Core.Bool.{true, false}
+use mathlib.Core.Bool.{Bool, true, false, cond}
 use mathlib.Core.List.{List, [], _∷_}
-use Prim.Native.Nat.{ℕ, suc, _-_, _≤_, _<_, zero-le}
+use Prim.Native.Nat.{ℕ, zero, suc, _-_, _≤_, _<_, zero-le}
 use native.Mathlib.Omega.{arith}
+use borrow.Author.Tests.{ltb-true}
 use lib.Dec.{ltb}
 use lib.ListN.{length, getD, length-drop, List·getD-eq-default}
-use Rattle.text.specs.Bytes.{place}
+use Rattle.text.specs.Bytes.{place, same}
 use Rattle.text.specs.Split.{fields, partsFrom, fieldFrom, pastField, split, words}
 use Rattle.text.specs.laws.Choice.{le-cases}
 use Rattle.text.specs.laws.Split.{parts-all, fields-next, fields-none, past-none}
 use Rattle.field.specs.declared.Form.the-variants as form
 use Rattle.field.specs.declared.Operator.the-variants as operator
 use Rattle.field.specs.Names.{reserved}
-use Rattle.field.specs.Words.{Field, operators, operatorWords, operatorOf, lineForms, lineForm, ruleForms, ruleForm, isRule, formOf, bodyOf}
+use Rattle.field.specs.Words.{Field, bodyOf, formOf, isRule, lineForm, lineWords, meaning, operatorOf, operatorWords, ruleForm, ruleWords, spellings}
 
 -- k is none of the numbers up to j
 pub beyond : {j k : ℕ} → j ≤ k → (k ≡ j → ⊥) → suc j ≤ k
 beyond h n = omega arith
 
--- the test of a reserved word
-pub reserved-at : (f : Field) (k : ℕ) → k ≡ place f operatorWords → ltb k 11 ≡ reserved f
+-- ---- words, and what they stand for
+
+abbrev pub meanings : {A : Type 0} → List (Field × A) → List A
+meanings [] = []
+meanings (p ∷ ps) = p .1 ∷ meanings ps
+
+-- what a field stands for is at its place
+meaning-at : {A : Type 0} (none : A) (ps : List (Field × A)) (f : Field) → meaning none ps f ≡ getD (meanings ps) (place f (spellings ps)) none
+unfolding place
+meaning-at none [] f = refl
+meaning-at none (p ∷ ps) f = go (same f (p .0)) (meaning-at none ps f)
+  where
+    go : (b : Bool) → meaning none ps f ≡ getD (meanings ps) (place f (spellings ps)) none
+        → cond b (p .1) (meaning none ps f) ≡ getD (p .1 ∷ meanings ps) (cond b 0 (suc (place f (spellings ps)))) none
+    go true more = refl
+    go false more = more
+
+-- the field f is at the place k of a text of the words
+module _ {A : Type 0} (none : A) (ps : List (Field × A)) (text : List Field) (spelled : text ≡ spellings ps) (f : Field) (k : ℕ) (is : k ≡ place f text) where
+  word-at : (j : ℕ) → k ≡ j → getD (meanings ps) j none ≡ meaning none ps f
+  word-at j e = rw (← e, is, spelled) (sym (meaning-at none ps f))
+
+  -- past its end
+  word-none : length (meanings ps) ≤ k → none ≡ meaning none ps f
+  word-none h = sym (List·getD-eq-default (meanings ps) none h) ∙ word-at k refl
+
+-- the words as the code has them
+pub operators-spelled : words "and or not some all atleast atmost self one top bot" ≡ spellings operatorWords
 unfolding split
-reserved-at f k p = ap (λ (j : ℕ). ltb j 11) p
+operators-spelled = refl
 
--- a place k in a list of words, and what stands there in the list beside it
-module _ (f : Field) (k j : ℕ) (is : k ≡ j) where
-  pub operator-at : k ≡ place f operatorWords → getD operators j operator.None ≡ operatorOf f
-  unfolding operatorOf
-  operator-at p = rw (← is, p)
+lines-spelled : words "concept role item in rel same under runder" ≡ spellings lineWords
+unfolding split
+lines-spelled = refl
 
-  pub line-form-at : k ≡ place f (words "concept role item in rel same under runder") → getD lineForms j form.Unknown ≡ lineForm f
-  unfolding lineForm
-  line-form-at p = rw (← is, p)
+rules-spelled : words "sub rsub chain ref irr dis in rel norel same differ" ≡ spellings ruleWords
+unfolding split
+rules-spelled = refl
 
-  pub rule-form-at : k ≡ place f (words "sub rsub chain ref irr dis in rel norel same differ") → getD ruleForms j form.Unknown ≡ ruleForm f
-  unfolding ruleForm
-  rule-form-at p = rw (← is, p)
+-- the test of a reserved word
+pub reserved-at : (f : Field) (k : ℕ) → k ≡ place f (spellings operatorWords) → ltb k (length (spellings operatorWords)) ≡ reserved f
+reserved-at f k p = ap (λ (j : ℕ). ltb j (length (spellings operatorWords))) p
 
--- past its end
 module _ (f : Field) (k : ℕ) where
-  pub operator-none : 11 ≤ k → k ≡ place f operatorWords → operator.None ≡ operatorOf f
-  operator-none h p = sym (List·getD-eq-default operators operator.None h) ∙ operator-at f k k refl p
+  module _ (p : k ≡ place f (spellings operatorWords)) where
+    pub operator-at : (j : ℕ) → k ≡ j → getD (meanings operatorWords) j operator.None ≡ operatorOf f
+    unfolding operatorOf
+    operator-at = word-at operator.None operatorWords (spellings operatorWords) refl f k p
 
-  pub line-form-none : 8 ≤ k → k ≡ place f (words "concept role item in rel same under runder") → form.Unknown ≡ lineForm f
-  line-form-none h p = sym (List·getD-eq-default lineForms form.Unknown h) ∙ line-form-at f k k refl p
+    pub operator-none : length (meanings operatorWords) ≤ k → operator.None ≡ operatorOf f
+    unfolding operatorOf
+    operator-none = word-none operator.None operatorWords (spellings operatorWords) refl f k p
 
-  pub rule-form-none : 11 ≤ k → k ≡ place f (words "sub rsub chain ref irr dis in rel norel same differ") → form.Unknown ≡ ruleForm f
-  rule-form-none h p = sym (List·getD-eq-default ruleForms form.Unknown h) ∙ rule-form-at f k k refl p
+  module _ (p : k ≡ place f (words "concept role item in rel same under runder")) where
+    pub line-form-at : (j : ℕ) → k ≡ j → getD (meanings lineWords) j form.Unknown ≡ lineForm f
+    unfolding lineForm
+    line-form-at = word-at form.Unknown lineWords _ lines-spelled f k p
+
+    pub line-form-none : length (meanings lineWords) ≤ k → form.Unknown ≡ lineForm f
+    unfolding lineForm
+    line-form-none = word-none form.Unknown lineWords _ lines-spelled f k p
+
+  module _ (p : k ≡ place f (words "sub rsub chain ref irr dis in rel norel same differ")) where
+    pub rule-form-at : (j : ℕ) → k ≡ j → getD (meanings ruleWords) j form.Unknown ≡ ruleForm f
+    unfolding ruleForm
+    rule-form-at = word-at form.Unknown ruleWords _ rules-spelled f k p
+
+    pub rule-form-none : length (meanings ruleWords) ≤ k → form.Unknown ≡ ruleForm f
+    unfolding ruleForm
+    rule-form-none = word-none form.Unknown ruleWords _ rules-spelled f k p
+
+-- a field that is no operator is none of the words
+no-operator : (k : ℕ) → k < length (meanings operatorWords) → getD (meanings operatorWords) k operator.None ≡ operator.None → ⊥
+no-operator zero h e = let z : _≡_ {A = ℕ} 0 1 = cc in omega arith
+no-operator (suc zero) h e = let z : _≡_ {A = ℕ} 0 1 = cc in omega arith
+no-operator (suc (suc zero)) h e = let z : _≡_ {A = ℕ} 0 1 = cc in omega arith
+no-operator (suc (suc (suc zero))) h e = let z : _≡_ {A = ℕ} 0 1 = cc in omega arith
+no-operator (suc (suc (suc (suc zero)))) h e = let z : _≡_ {A = ℕ} 0 1 = cc in omega arith
+no-operator (suc (suc (suc (suc (suc zero))))) h e = let z : _≡_ {A = ℕ} 0 1 = cc in omega arith
+no-operator (suc (suc (suc (suc (suc (suc zero)))))) h e = let z : _≡_ {A = ℕ} 0 1 = cc in omega arith
+no-operator (suc (suc (suc (suc (suc (suc (suc zero))))))) h e = let z : _≡_ {A = ℕ} 0 1 = cc in omega arith
+no-operator (suc (suc (suc (suc (suc (suc (suc (suc zero)))))))) h e = let z : _≡_ {A = ℕ} 0 1 = cc in omega arith
+no-operator (suc (suc (suc (suc (suc (suc (suc (suc (suc zero))))))))) h e = let z : _≡_ {A = ℕ} 0 1 = cc in omega arith
+no-operator (suc (suc (suc (suc (suc (suc (suc (suc (suc (suc zero)))))))))) h e = let z : _≡_ {A = ℕ} 0 1 = cc in omega arith
+no-operator (suc (suc (suc (suc (suc (suc (suc (suc (suc (suc (suc k))))))))))) h e = omega arith
+
+pub not-reserved : (f : Field) → operator.None ≡ operatorOf f → reserved f ≡ false
+unfolding operatorOf
+not-reserved f e = go (reserved f) refl
+  where
+    go : (b : Bool) → reserved f ≡ b → b ≡ false
+    go true q = absurd (no-operator (place f (spellings operatorWords)) (ltb-true _ _ q) (sym (e ∙ meaning-at operator.None operatorWords f)))
+    go false q = refl
 
 -- ---- what a line is, and its body, by the places of its fields
 

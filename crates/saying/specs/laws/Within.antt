@@ -8,7 +8,6 @@ use borrow.Author.Tests.{leb-true, ltb-true, not-false}
 use lib.Dec.{eqb, leb, ltb}
 use lib.ListN.{drop, getD, length, length-drop}
 use Rattle.text.specs.Bytes.{between, place}
-use Rattle.text.specs.Split.{split}
 use Rattle.closure.specs.declared.Counts.{Counts}
 use Rattle.rule.specs.Expr.{Expr}
 use Rattle.rule.specs.Expr.Expr.{both, many, name, neg, one, own, top}
@@ -20,7 +19,8 @@ use Rattle.field.specs.declared.Operator.the-variants as operator
 use Rattle.field.specs.Due.{fits, isExpr, wanted}
 use Rattle.field.specs.Names.{Names, countOf, countsOf, fieldFault, fieldFaults, isCount, nameFault, reserved}
 use Rattle.saying.specs.Read.{Read, byWord, read}
-use Rattle.field.specs.Words.{at, Field, operatorOf, operatorWords, operators}
+use Rattle.field.specs.Words.{at, Field, operatorOf}
+use Rattle.field.specs.laws.Words.{not-reserved}
 use Rattle.field.specs.laws.Right.{Right, fault-none, item-declared, lower-zeros, name-declared, right-first, role-use-declared}
 use Rattle.saying.specs.laws.Read.{Reader, drop-two, read-right}
 
@@ -33,29 +33,6 @@ Sound n (both c d) = Sound n c × Sound n d
 Sound n (many k u c) = (1 ≤ k) × (k ≤ countLimit) × (u .role .0 < n .roles) × Sound n c
 Sound n (own u) = u .role .0 < n .roles
 Sound n (one a) = a .0 < n .items
-
--- a field that is no operator is none of the words
-no-operator : (k : ℕ) → k < 11 → getD operators k operator.None ≡ operator.None → ⊥
-no-operator zero h e = let z : _≡_ {A = ℕ} 0 1 = cc in omega arith
-no-operator (suc zero) h e = let z : _≡_ {A = ℕ} 0 1 = cc in omega arith
-no-operator (suc (suc zero)) h e = let z : _≡_ {A = ℕ} 0 1 = cc in omega arith
-no-operator (suc (suc (suc zero))) h e = let z : _≡_ {A = ℕ} 0 1 = cc in omega arith
-no-operator (suc (suc (suc (suc zero)))) h e = let z : _≡_ {A = ℕ} 0 1 = cc in omega arith
-no-operator (suc (suc (suc (suc (suc zero))))) h e = let z : _≡_ {A = ℕ} 0 1 = cc in omega arith
-no-operator (suc (suc (suc (suc (suc (suc zero)))))) h e = let z : _≡_ {A = ℕ} 0 1 = cc in omega arith
-no-operator (suc (suc (suc (suc (suc (suc (suc zero))))))) h e = let z : _≡_ {A = ℕ} 0 1 = cc in omega arith
-no-operator (suc (suc (suc (suc (suc (suc (suc (suc zero)))))))) h e = let z : _≡_ {A = ℕ} 0 1 = cc in omega arith
-no-operator (suc (suc (suc (suc (suc (suc (suc (suc (suc zero))))))))) h e = let z : _≡_ {A = ℕ} 0 1 = cc in omega arith
-no-operator (suc (suc (suc (suc (suc (suc (suc (suc (suc (suc zero)))))))))) h e = let z : _≡_ {A = ℕ} 0 1 = cc in omega arith
-no-operator (suc (suc (suc (suc (suc (suc (suc (suc (suc (suc (suc k))))))))))) h e = omega arith
-
-not-reserved : (f : Field) → operator.None ≡ operatorOf f → reserved f ≡ false
-unfolding operatorOf split
-not-reserved f e = go (reserved f) refl
-  where
-    go : (b : Bool) → ltb (place f operatorWords) 11 ≡ b → b ≡ false
-    go true q = absurd (no-operator (place f operatorWords) (ltb-true _ _ q) (sym e))
-    go false q = refl
 
 module _ (n : Names) (f : Field) where
   -- a concept in an expression

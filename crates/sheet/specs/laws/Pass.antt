@@ -70,7 +70,7 @@ accepted-start sheet x e = go (leb (length sheet) sheetLimit) refl e
 
 -- an empty line is no rule
 empty-form : formOf (fields []) ≡ form.Unknown
-unfolding split lineForm same place
+unfolding split lineForm same
 empty-form = refl
 
 -- a line that is no rule leaves the rules

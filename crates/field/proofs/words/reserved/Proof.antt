@@ -4,14 +4,11 @@ use borrow.Author.Needs.{needs}
 use Rattle.field.proofs.words.reserved.Statement.{statement}
 use Rattle.field.proofs.words.reserved.Tie as tie
 
-slice-aggregate-place : tie.Need-slice-aggregate-place
-slice-aggregate-place c = search needs
-
-place-requires : tie.Need-place-requires
-place-requires c κs = search needs
+operator-place-requires : tie.Need-operator-place-requires
+operator-place-requires c κs = search needs
 
 returns : tie.Need-returns
-returns c = reserved-at _ _ (c .place .ensures)
+returns c = reserved-at _ _ (c .operator-place .ensures)
 
 pub reserved-spec : {M : Type 1} → statement M
-reserved-spec = tie.close (tie.spec slice-aggregate-place place-requires returns)
+reserved-spec = tie.close (tie.spec operator-place-requires returns)
