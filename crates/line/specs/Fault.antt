@@ -7,14 +7,11 @@ use lib.ListN.{length}
 use Rattle.text.specs.Bytes.{bytes, every, same}
 use Rattle.text.specs.Name.{lineByte}
 use Rattle.text.specs.Split.{fields}
-use Rattle.closure.specs.declared.Statement.the-variants as stated
 use Rattle.rule.specs.Form.{nodeLimit}
 use Rattle.field.specs.declared.Form.{Form}
-use Rattle.field.specs.declared.Form.the-variants as form
 use Rattle.line.specs.declared.Marks.{Marks}
 use Rattle.field.specs.declared.Section.{Section}
 use Rattle.field.specs.declared.Section.the-variants as section
-use Rattle.field.specs.declared.StatementWord.the-variants as statement
 use Rattle.field.specs.Due.{lineupOf, dues, fits}
 use Rattle.field.specs.Names.{Names, fault, lowerFault, fieldFaults, nodesIn}
 use Rattle.field.specs.Words.{Field, formOf, bodyOf, sectionOf}

@@ -1,7 +1,7 @@
 -- Concept expressions, rules and statements, read from fields whose names are declared.
 use mathlib.Core.List.{List, [], _∷_, _++_, map}
 use Prim.Native.Nat.{ℕ, zero, suc, _+_, _-_}
-use lib.ListN.{length, getD, drop, replicate}
+use lib.ListN.{length, drop, replicate}
 use lib.Seq.{sets}
 use Rattle.text.specs.Bytes.{place}
 use Rattle.closure.specs.Cell.{turn}

@@ -5,18 +5,13 @@ use Prim.Native.Nat.{ℕ, _+_}
 use lib.Dec.{leb, eqb}
 use lib.ListN.{length}
 use Rattle.text.specs.Split.{fields, lines}
-use Rattle.closure.specs.Cell.{turn}
 use Rattle.closure.specs.declared.Statement.{Statement}
-use Rattle.closure.specs.declared.Statement.the-variants as stated
 use Rattle.rule.specs.declared.Rule.{Rule}
 use Rattle.field.specs.declared.Form.{Form}
 use Rattle.field.specs.declared.Form.the-variants as form
-use Rattle.field.specs.declared.Section.the-variants as section
-use Rattle.field.specs.declared.StatementWord.{StatementWord}
-use Rattle.field.specs.declared.StatementWord.the-variants as statement
 use Rattle.line.specs.declared.Marks.{Marks}
 use Rattle.line.specs.Fault.{headerFault, lineFault, none, sheetLimit}
-use Rattle.field.specs.Names.{Names, inverted, plain}
+use Rattle.field.specs.Names.{Names}
 use Rattle.field.specs.Words.{at, Field, formOf, bodyOf}
 use Rattle.saying.specs.Read.{ruleOf, statementOf}
 

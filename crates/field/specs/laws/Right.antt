@@ -2,26 +2,20 @@
 use mathlib.Core.Path.{_≡_, refl, sym, _∙_}
 use mathlib.Core.Bool.{Bool, true, false, not, true≢false}
 use mathlib.Core.List.{List, [], _∷_}
-use Prim.Native.Nat.{ℕ, zero, suc, _≤_, _<_}
+use Prim.Native.Nat.{ℕ, zero, suc, _<_}
 use native.Mathlib.Omega.{arith}
-use borrow.Author.Tests.{ltb-true, ltb-false, leb-false, not-false}
-use lib.Dec.{leb, ltb}
+use borrow.Author.Tests.{ltb-true, leb-false, not-false}
+use lib.Dec.{leb}
 use lib.ListN.{length, drop}
-use Rattle.text.specs.Bytes.{every, place}
+use Rattle.text.specs.Bytes.{place}
 use Rattle.text.specs.Date.{dateShaped}
-use Rattle.text.specs.Name.{isName, lineByte}
-use Rattle.text.specs.Split.{fields}
-use Rattle.closure.specs.Cell.{Within, cellOf}
+use Rattle.text.specs.Name.{isName}
 use Rattle.closure.specs.Layout.{conceptLimit, itemLimit, roleLimit, width}
 use Rattle.field.specs.declared.Due.{Due}
 use Rattle.field.specs.declared.Due.the-variants as due
-use Rattle.field.specs.declared.Form.{Form}
-use Rattle.field.specs.declared.Form.the-variants as form
-use Rattle.field.specs.declared.StatementWord.{StatementWord}
-use Rattle.field.specs.declared.StatementWord.the-variants as statement
-use Rattle.field.specs.Due.{dues, fits, isExpr, lineupOf}
-use Rattle.field.specs.Names.{Names, countsOf, declared, fault, fieldFault, fieldFaults, lowerFault, nameFault, newFault, nodesIn, plain, reserved}
-use Rattle.field.specs.Words.{at, Field, bodyOf, formOf, sectionOf}
+use Rattle.field.specs.Due.{fits, isExpr}
+use Rattle.field.specs.Names.{Names, declared, fault, fieldFault, fieldFaults, lowerFault, nameFault, newFault, plain, reserved}
+use Rattle.field.specs.Words.{at, Field}
 use Rattle.field.specs.laws.Names.{lower-both, lower-first, lower-none}
 
 -- ---- nothing applies

@@ -1,20 +1,14 @@
 -- The reader's own records of the declared names: places in the sheet.
 use mathlib.Core.Path.{_≡_}
 use mathlib.Core.Bool.{cond}
-use mathlib.Core.List.{List, [], _∷_, _++_, map}
-use Prim.Native.Nat.{ℕ, _+_, _-_, _*_, _/_, _%_, _≤_}
+use mathlib.Core.List.{List, [], map}
+use Prim.Native.Nat.{ℕ, _+_, _-_, _*_, _/_, _%_}
 use lib.Dec.{eqb}
-use lib.ListN.{length, getD, take, drop, set, replicate}
+use lib.ListN.{length, getD, take, set}
 use Rattle.text.specs.Bytes.{partOf, place as placeOf}
 use Rattle.closure.specs.Layout.{Fits, width}
-use Rattle.field.specs.declared.Due.{Due}
-use Rattle.field.specs.declared.Due.the-variants as due
-use Rattle.field.specs.declared.Lineup.{Lineup}
-use Rattle.field.specs.declared.Operator.{Operator}
-use Rattle.field.specs.declared.Operator.the-variants as operator
 use Rattle.field.specs.declared.Table.{Table}
-use Rattle.field.specs.Due.{dues, fits, isExpr, wanted}
-use Rattle.field.specs.Names.{Names, fieldFaults, nodesIn}
+use Rattle.field.specs.Names.{Names}
 
 -- how many tags, places and lengths an entry can tell, and how many entries have the same tag
 abbrev pub tagCount : ℕ

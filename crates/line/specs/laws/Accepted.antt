@@ -1,31 +1,21 @@
 -- What a line without a fault is known to have. Assumes nothing.
-use mathlib.Core.Path.{_≡_, refl, sym, _∙_}
-use mathlib.Core.Bool.{Bool, true, false, not, true≢false}
-use mathlib.Core.List.{List, [], _∷_}
-use Prim.Native.Nat.{ℕ, zero, suc, _≤_, _<_}
-use native.Mathlib.Omega.{arith}
-use borrow.Author.Tests.{ltb-true, ltb-false, leb-false, not-false}
-use lib.Dec.{leb, ltb}
-use lib.ListN.{length, drop}
-use Rattle.text.specs.Bytes.{every, place}
-use Rattle.text.specs.Date.{dateShaped}
-use Rattle.text.specs.Name.{isName, lineByte}
+use mathlib.Core.Path.{_≡_}
+use mathlib.Core.Bool.{false, not}
+use mathlib.Core.List.{List}
+use Prim.Native.Nat.{ℕ, _≤_}
+use borrow.Author.Tests.{ltb-false, not-false}
+use lib.Dec.{ltb}
+use lib.ListN.{length}
+use Rattle.text.specs.Bytes.{every}
+use Rattle.text.specs.Name.{lineByte}
 use Rattle.text.specs.Split.{fields}
-use Rattle.closure.specs.Cell.{Within, cellOf}
-use Rattle.closure.specs.Layout.{conceptLimit, itemLimit, roleLimit, width}
 use Rattle.rule.specs.Form.{nodeLimit}
-use Rattle.field.specs.declared.Due.{Due}
-use Rattle.field.specs.declared.Due.the-variants as due
 use Rattle.field.specs.declared.Form.{Form}
-use Rattle.field.specs.declared.Form.the-variants as form
 use Rattle.line.specs.declared.Marks.{Marks}
-use Rattle.field.specs.declared.StatementWord.{StatementWord}
-use Rattle.field.specs.declared.StatementWord.the-variants as statement
-use Rattle.field.specs.Due.{dues, fits, isExpr, lineupOf}
+use Rattle.field.specs.Due.{dues, fits, lineupOf}
 use Rattle.line.specs.Fault.{ended, fieldsFault, formFault, full, lineFault, lineLimit, none, unknown}
-use Rattle.field.specs.Names.{Names, countsOf, declared, fault, fieldFault, fieldFaults, lowerFault, nameFault, newFault, nodesIn, plain, reserved}
+use Rattle.field.specs.Names.{Names, fault, fieldFaults, lowerFault, nodesIn}
 use Rattle.field.specs.Words.{at, Field, bodyOf, formOf, sectionOf}
-use Rattle.field.specs.laws.Names.{lower-both, lower-first, lower-none}
 use Rattle.field.specs.laws.Right.{Right, fault-none, lower-zeros}
 
 -- the fields of an accepted line

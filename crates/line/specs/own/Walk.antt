@@ -1,12 +1,9 @@
 -- The own records of the walk along the fields of a line: what is still due.
 use mathlib.Core.Path.{_≡_}
 use mathlib.Core.Bool.{cond}
-use mathlib.Core.List.{List, [], _∷_, _++_, map}
-use Prim.Native.Nat.{ℕ, _+_, _-_, _*_, _/_, _%_, _≤_}
-use lib.Dec.{eqb}
-use lib.ListN.{length, getD, take, drop, set, replicate}
-use Rattle.text.specs.Bytes.{partOf, place as placeOf}
-use Rattle.closure.specs.Layout.{Fits, width}
+use mathlib.Core.List.{List, [], _∷_, _++_}
+use Prim.Native.Nat.{ℕ, _+_, _≤_}
+use lib.ListN.{drop, replicate}
 use Rattle.field.specs.declared.Due.{Due}
 use Rattle.field.specs.declared.Due.the-variants as due
 use Rattle.line.specs.declared.Lead.{Lead}
@@ -15,7 +12,6 @@ use Rattle.field.specs.declared.Lineup.{Lineup}
 use Rattle.field.specs.declared.Operator.{Operator}
 use Rattle.field.specs.declared.Operator.the-variants as operator
 use Rattle.line.specs.declared.Pending.{Pending}
-use Rattle.field.specs.declared.Table.{Table}
 use Rattle.line.specs.declared.Walked.{Walked}
 use Rattle.field.specs.Due.{dues, fits, isExpr, wanted}
 use Rattle.field.specs.Names.{Names, fieldFaults, nodesIn}

@@ -1,30 +1,19 @@
 -- The numbers of a statement, read from fields with nothing wrong, are below their counts. Assumes nothing.
-use mathlib.Core.Path.{_≡_, refl, sym, _∙_}
-use mathlib.Core.Bool.{Bool, true, false, not, true≢false}
+use mathlib.Core.Path.{_≡_, refl}
+use mathlib.Core.Bool.{false}
 use mathlib.Core.List.{List, [], _∷_}
-use Prim.Native.Nat.{ℕ, zero, suc, _≤_, _<_}
-use native.Mathlib.Omega.{arith}
-use borrow.Author.Tests.{ltb-true, ltb-false, leb-false, not-false}
-use lib.Dec.{leb, ltb}
+use Prim.Native.Nat.{ℕ, suc}
 use lib.ListN.{length, drop}
-use Rattle.text.specs.Bytes.{every, place}
-use Rattle.text.specs.Date.{dateShaped}
-use Rattle.text.specs.Name.{isName, lineByte}
-use Rattle.text.specs.Split.{fields}
 use Rattle.closure.specs.Cell.{Within, cellOf}
-use Rattle.closure.specs.Layout.{conceptLimit, itemLimit, roleLimit, width}
-use Rattle.rule.specs.Form.{nodeLimit}
 use Rattle.field.specs.declared.Due.{Due}
 use Rattle.field.specs.declared.Due.the-variants as due
-use Rattle.field.specs.declared.Form.{Form}
 use Rattle.field.specs.declared.Form.the-variants as form
 use Rattle.field.specs.declared.StatementWord.{StatementWord}
 use Rattle.field.specs.declared.StatementWord.the-variants as statement
-use Rattle.field.specs.Due.{dues, fits, isExpr, lineupOf}
-use Rattle.field.specs.Names.{Names, countsOf, declared, fault, fieldFault, fieldFaults, lowerFault, nameFault, newFault, nodesIn, plain, reserved}
-use Rattle.field.specs.Words.{at, Field, bodyOf, formOf, sectionOf}
+use Rattle.field.specs.Due.{dues, isExpr, lineupOf}
+use Rattle.field.specs.Names.{Names, countsOf, fieldFault}
+use Rattle.field.specs.Words.{at, Field}
 use Rattle.saying.specs.Read.{statementOf}
-use Rattle.field.specs.laws.Names.{lower-both, lower-first, lower-none}
 use Rattle.field.specs.laws.Right.{Right, concept-declared, item-declared, right-first, role-declared, role-use-declared}
 
 module _ (n : Names) where

@@ -4,9 +4,9 @@ use mathlib.Core.Bool.{Bool, true, false, cond, not, true≢false}
 use mathlib.Core.List.{List, [], _∷_, _++_}
 use Prim.Native.Nat.{ℕ, zero, suc, _-_, _≤_, _<_}
 use native.Mathlib.Omega.{arith}
-use borrow.Author.Tests.{leb-true, ltb-true, not-false}
-use lib.Dec.{eqb, leb, ltb}
-use lib.ListN.{drop, getD, length, length-drop}
+use borrow.Author.Tests.{leb-true, not-false}
+use lib.Dec.{eqb, leb}
+use lib.ListN.{drop, length, length-drop}
 use Rattle.text.specs.Bytes.{between, place}
 use Rattle.closure.specs.declared.Counts.{Counts}
 use Rattle.rule.specs.Expr.{Expr}
@@ -17,7 +17,7 @@ use Rattle.field.specs.declared.Due.the-variants as due
 use Rattle.field.specs.declared.Operator.{Operator}
 use Rattle.field.specs.declared.Operator.the-variants as operator
 use Rattle.field.specs.Due.{fits, isExpr, wanted}
-use Rattle.field.specs.Names.{Names, countOf, countsOf, fieldFault, fieldFaults, isCount, nameFault, reserved}
+use Rattle.field.specs.Names.{Names, countOf, countsOf, fieldFault, fieldFaults, isCount, nameFault}
 use Rattle.saying.specs.Read.{Read, byWord, read}
 use Rattle.field.specs.Words.{at, Field, operatorOf}
 use Rattle.field.specs.laws.Words.{not-reserved}

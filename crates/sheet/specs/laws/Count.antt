@@ -9,7 +9,7 @@ use lib.ListN.{length, length-append}
 use Rattle.closure.specs.declared.Counts.{Counts}
 use Rattle.closure.specs.declared.Layout.{Layout}
 use Rattle.closure.specs.Cell.{Cell}
-use Rattle.closure.specs.Layout.{ClosedStore, Holds, layoutOf, size, width}
+use Rattle.closure.specs.Layout.{Holds, layoutOf, size, width}
 use Rattle.rule.specs.declared.Finding.{Finding}
 use Rattle.rule.specs.declared.Prepared.{Prepared}
 use Rattle.rule.specs.declared.Rule.{Rule}
@@ -17,17 +17,15 @@ use Rattle.rule.specs.Findings.{Findings}
 use Rattle.rule.specs.Search.{Starts}
 use Rattle.sheet.specs.declared.Ended.{Ended}
 use Rattle.line.specs.declared.Marks.{Marks}
-use Rattle.sheet.specs.declared.Reading.{Reading}
 use Rattle.sheet.specs.declared.Reading.the-variants as reading
 use Rattle.sheet.specs.declared.RuleLine.{RuleLine}
 use Rattle.field.specs.declared.Table.{Table}
-use Rattle.sheet.specs.declared.Whole.{Whole}
 use Rattle.field.specs.Names.{countsOf}
-use Rattle.sheet.specs.own.Pass.{Accepts, Counted, Judges, Next, NextRule, Opened, Passing, Paused, Totalled, Wholly, countedIn, foundRule}
-use Rattle.sheet.specs.Promise.{FindingsFrom, FindingsIn, Held, Leaves, Reads}
+use Rattle.sheet.specs.own.Pass.{Counted, Judges, Next, NextRule, Opened, Passing, Paused, Totalled, Wholly, countedIn, foundRule}
+use Rattle.sheet.specs.Promise.{FindingsFrom, FindingsIn, Held, Reads}
 use Rattle.sheet.specs.Promise.FindingsFrom.{none, more}
 use Rattle.sheet.specs.Promise.Reads.{wrong-size, refused as refusedRead, accepted as acceptedRead}
-use Rattle.sheet.specs.Said.{Outcome, Said, SheetRule, marksOf, outcome}
+use Rattle.sheet.specs.Said.{Outcome, Said, SheetRule, outcome}
 use Rattle.sheet.specs.Said.Outcome.{accepted, refused}
 use Rattle.sheet.specs.own.Stands.{Opens}
 use Rattle.field.specs.own.Table.{Roomy, namesOf}

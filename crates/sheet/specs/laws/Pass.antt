@@ -1,5 +1,5 @@
 -- Laws of the second reading: which rules are done, and which come next. Assumes nothing.
-use mathlib.Core.Path.{_≡_, refl, sym, ap, _∙_, subst}
+use mathlib.Core.Path.{_≡_, refl, sym, ap, _∙_}
 use mathlib.Core.Bool.{Bool, true, false, cond, true≢false}
 use mathlib.Core.List.{List, [], _∷_, _++_, append-assoc, append-nil}
 use Prim.Native.Nat.{ℕ, _+_, _-_, _≤_, _<_, zero-le}
@@ -7,7 +7,7 @@ use native.Mathlib.Omega.{arith}
 use borrow.Author.Tests.{eqb-true, leb-true}
 use lib.Dec.{eqb, leb}
 use lib.ListN.{length}
-use Rattle.text.specs.Bytes.{partOf, place, same}
+use Rattle.text.specs.Bytes.{partOf, same}
 use Rattle.text.specs.Split.{endOf, fields, partsFrom, split}
 use Rattle.text.specs.laws.Split.{end-ge, end-le, parts-all, parts-next, parts-none}
 use Rattle.field.specs.declared.Form.{Form}
@@ -17,8 +17,7 @@ use Rattle.field.specs.declared.RuleWord.{RuleWord}
 use Rattle.field.specs.declared.Table.{Table}
 use Rattle.line.specs.Fault.{headerFault, lineFault, none, sheetLimit}
 use Rattle.field.specs.Names.{Names}
-use Rattle.saying.specs.own.Nodes.{RuleReady}
-use Rattle.sheet.specs.own.Pass.{LineRule, NextRule, Passing, RuleIfReady, foundRule}
+use Rattle.sheet.specs.own.Pass.{LineRule, Passing, RuleIfReady, foundRule}
 use Rattle.saying.specs.Read.{ruleOf}
 use Rattle.sheet.specs.Said.{Outcome, Said, SheetRule, lineSaid, marksOf, nothing, outcome, outcomeFrom, outcomeOf, saying}
 use Rattle.sheet.specs.Said.Outcome.{accepted, refused}

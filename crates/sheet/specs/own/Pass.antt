@@ -13,7 +13,6 @@ use Rattle.field.specs.declared.Form.{Form}
 use Rattle.field.specs.declared.Form.the-variants as form
 use Rattle.sheet.specs.declared.RuleLine.{RuleLine}
 use Rattle.field.specs.declared.RuleWord.{RuleWord}
-use Rattle.field.specs.declared.StatementWord.{StatementWord}
 use Rattle.field.specs.declared.Table.{Table}
 use Rattle.sheet.specs.declared.Whole.{Whole}
 use Rattle.line.specs.Fault.{sheetLimit}

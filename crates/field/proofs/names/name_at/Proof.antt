@@ -1,5 +1,5 @@
 -- `field::names::name_at` meets its contract. Assumes nothing.
-use mathlib.Core.Path.{_≡_, sym, ap, _∙_}
+use mathlib.Core.Path.{sym, ap, _∙_}
 use borrow.Author.Needs.{needs}
 use Rattle.field.specs.own.Table.{tagOf}
 use Rattle.field.specs.laws.Tag.{tagged-own, tagged-none}

@@ -1,7 +1,6 @@
 -- `sheet::pass::rule_in` meets its contract. Assumes nothing.
 use mathlib.Core.Path.{sym, _∙_}
 use borrow.Author.Needs.{needs}
-use native.Mathlib.Omega.{arith}
 use Rattle.sheet.proofs.pass.rule_in.Statement.{statement}
 use Rattle.sheet.proofs.pass.rule_in.Tie as tie
 

@@ -1,5 +1,4 @@
 -- `sheet::reads::whole` meets its contract. Assumes nothing.
-use mathlib.Core.Path.{_≡_}
 use Rattle.sheet.specs.laws.Count.{opens-judges, whole-accepted, whole-refused, whole-size}
 use Rattle.sheet.specs.laws.Stands.{Places}
 use borrow.Author.Needs.{needs}
