@@ -33,13 +33,13 @@ progress() {
     grep --line-buffered -E '^rt: |: error' | grep --line-buffered -vE 'unchanged since|^rt: ok' >&2 || true
 }
 
-# Has rt prove and build the program; where nothing has changed since, that takes a moment. One call builds at a time.
+# Has rt prove and build the program, four crates at a time; where nothing has changed since, that takes a moment. One call builds at a time.
 build() {
     command -v rt >/dev/null || fail "rt is missing: install the Rattle kit and put rt on the PATH (README.md, 'What it needs')"
     [[ -x $program ]] || echo "$name: building the program: everything is proved first, which takes some minutes" >&2
     exec {lock}<"$root/crates.txt"
     ! command -v flock >/dev/null || flock "$lock"
-    (cd "$root" && rt check "$crate") </dev/null 2>&1 | progress || fail "the program was not built ('rt check $crate' says more)"
+    (cd "$root" && RT_JOBS="${RT_JOBS:-4}" rt check "$crate") </dev/null 2>&1 | progress || fail "the program was not built ('rt check $crate' says more)"
     exec {lock}<&-
     [[ -x $program ]] || fail "rt has left no program: remove the folder target and try again"
 }

@@ -1,8 +1,8 @@
 /*
- * Saltreeve: the check of a whole sheet, the reasons for what is found, and the
- * store of what follows from a sheet's statements.
+ * Saltreeve: the check of a whole sheet, the reasons for what is found, the
+ * store of what follows from a sheet's statements, and rules by number over it.
  *
- * saltreeve_check and the three functions after it, which stand last below, take
+ * saltreeve_check and the four functions after it, which stand last below, take
  * a sheet's bytes; docs/HOST.md has examples. The others work on a store: the
  * caller lends 4,528 words of 64 bits and says with each call how many
  * items, concepts and roles are declared. Items, concepts and roles are
@@ -18,12 +18,14 @@
  *
  * Divisions drop the rest. All other bits are 0.
  *
- * Those functions hand back a count of cells, or minus the number of refusal:
+ * Those functions hand back a count, of cells where nothing else is said, or
+ * minus the number of refusal:
  *
  *   -1  length is not 4,528, or a declared count is over its limit
  *   -2  the store is not closed: a cell that follows from its cells and the
  *       declared counts is missing, or a bit is set that is no cell within
  *       the declared counts
+ *   -3  a rule is malformed
  *   -4  an item, concept or role number is not below its declared count
  *
  * Where more than one applies, the lowest number is given. A refusal changes
@@ -44,6 +46,84 @@
 #define SALTREEVE_ITEMS 128
 #define SALTREEVE_CONCEPTS 32
 #define SALTREEVE_ROLES 16
+
+/*
+ * A rule is SALTREEVE_RULE_WORDS words:
+ *
+ *   word 0         the kind of rule, one of the kinds below
+ *   words 1 to 11  its fields
+ *                    SUB            node, node
+ *                    RSUB, DIS      role, inverse, role, inverse
+ *                    CHAIN          length k, four times role and inverse, of which
+ *                                   the first k count, then the last role, inverse
+ *                    REF, IRR       role, inverse
+ *                    IN             node, item
+ *                    REL, NOREL     role, inverse, item, item
+ *                    SAME, DIFFER   item, item
+ *   word 12        the number of nodes
+ *   from word 13   32 nodes of 5 words: the kind of node, then its fields
+ *                    NAME           concept
+ *                    TOP            none
+ *                    NOT            node
+ *                    AND            node, node
+ *                    AT_LEAST       count, role, inverse, node
+ *                    SELF           role, inverse
+ *                    ONE            item
+ *
+ * An inverse is 0 for the role as it is, any other number for its inverse. Words
+ * that a kind has no use for are ignored, and so are the nodes from the number of
+ * nodes on. A field that is a node has its number, from 0. docs/SHEETS.md says what
+ * each kind of rule asks.
+ *
+ * A rule is malformed (-3) if it has another number of words, a kind of rule or a
+ * kind of node that is not one of these, over 32 nodes, a count outside 1 to 8, a
+ * chain whose length is outside 2 to 4, or a node or root that is not there; and if
+ * some node is not used exactly once in all, as a root (a node field of the rule) or
+ * by a node with a lower number.
+ */
+#define SALTREEVE_RULE_WORDS 173
+#define SALTREEVE_NODE_COUNT 12 /* the word that has the number of nodes */
+#define SALTREEVE_FIRST_NODE 13 /* the first word of node 0 */
+#define SALTREEVE_NODE_WORDS 5
+#define SALTREEVE_NODES 32
+
+/* The kinds of rules. */
+#define SALTREEVE_SUB 0
+#define SALTREEVE_RSUB 1
+#define SALTREEVE_CHAIN 2
+#define SALTREEVE_REF 3
+#define SALTREEVE_IRR 4
+#define SALTREEVE_DIS 5
+#define SALTREEVE_IN 6
+#define SALTREEVE_REL 7
+#define SALTREEVE_NOREL 8
+#define SALTREEVE_SAME 9
+#define SALTREEVE_DIFFER 10
+
+/* The kinds of nodes. */
+#define SALTREEVE_NODE_NAME 0     /* the items in the concept */
+#define SALTREEVE_NODE_TOP 1      /* all items */
+#define SALTREEVE_NODE_NOT 2      /* those that the node does not hold of */
+#define SALTREEVE_NODE_AND 3      /* those that both nodes hold of */
+#define SALTREEVE_NODE_AT_LEAST 4 /* those linked to so many articles or more that the node holds of */
+#define SALTREEVE_NODE_SELF 5     /* those linked to themselves */
+#define SALTREEVE_NODE_ONE 6      /* those that are the same as the item */
+
+/* What stands for the second item of a finding that has none. */
+#define SALTREEVE_NO_ITEM UINT64_MAX
+
+/* Room in words of 16 bits that suffices for the query of any rule. */
+#define SALTREEVE_QUERY_WORDS 2048
+
+/* The kinds of the items of a query. */
+#define SALTREEVE_QUERY_CONCEPT 1  /* the first term is in the concept */
+#define SALTREEVE_QUERY_ROLE 2     /* the role links the first term to the second */
+#define SALTREEVE_QUERY_EQUALITY 3 /* the terms are the same */
+#define SALTREEVE_QUERY_OPEN 4     /* a not opens */
+#define SALTREEVE_QUERY_CLOSE 5    /* it closes */
+
+/* The term of item 0 in a query; that of item a is larger by a. */
+#define SALTREEVE_QUERY_ITEM 4096
 
 /* Room in bytes that suffices for the text of any sheet. */
 #define SALTREEVE_TEXT 12814
@@ -124,6 +204,45 @@ int64_t saltreeve_add_link(uint64_t *words, size_t length,
                            uint64_t role, uint64_t a, uint64_t b);
 
 /*
+ * Finds what breaks a rule. Returns the number of all findings and writes them to
+ * `out`, two words each: an item and a second item, or SALTREEVE_NO_ITEM where the
+ * rule is about one item only. They are in the order of the first item, then of the
+ * second. As many are written as fit; the words past them are untouched, and so is
+ * all of `out` by a refusal. Refuses with -1, -2, -3, or -4 if an item, concept or
+ * role of the rule, or of one of its nodes, is not below its count. The store and
+ * the rule are only read. `out` must not overlap them; NULL is not allowed, also
+ * where a length is 0.
+ */
+int64_t saltreeve_findings(const uint64_t *words, size_t length,
+                           uint64_t items, uint64_t concepts, uint64_t roles,
+                           const uint64_t *rule, size_t rule_length,
+                           uint64_t *out, size_t out_length);
+
+/*
+ * Compiles a rule to a query, whose answers in a store are the rule's findings.
+ * Returns four times the number of its items, plus the number of its answer
+ * variables (0, 1 or 2), and writes the items to `room`, four words each: a kind
+ * (SALTREEVE_QUERY_..), the number of a concept or role or 0, the first term, the
+ * second term or 0. A term is the number of a variable, from 0, the answer variables
+ * first, or SALTREEVE_QUERY_ITEM + a for item a. All items of a query hold together.
+ * What stands between an opening and its closing not does not hold: there are no
+ * values at which it does for the variables first met in it, answer variables apart.
+ * The words past the query are untouched, and so is the room by a refusal:
+ *
+ *   -1  a declared count is over its limit
+ *   -3  the rule is malformed
+ *   -4  an item, concept or role number of the rule is not below its declared count
+ *   -5  the query is longer than 512 items
+ *   -6  room_length is under four words for each item
+ *
+ * Where more than one applies, the lowest number is given. The rule is only read. It
+ * must not overlap the room; NULL is not allowed, also where a length is 0.
+ */
+int64_t saltreeve_compile(uint64_t items, uint64_t concepts, uint64_t roles,
+                          const uint64_t *rule, size_t rule_length,
+                          uint16_t *room, size_t room_length);
+
+/*
  * Checks a sheet: writes to `room` the text that the program `check` prints for
  * it, which is its findings and their total, or the one line of a refused sheet.
  * Returns the number of bytes written; the room past them is untouched. Returns
@@ -134,6 +253,27 @@ int64_t saltreeve_add_link(uint64_t *words, size_t length,
  */
 int64_t saltreeve_check(const uint8_t *sheet, size_t sheet_length,
                         uint8_t *room, size_t room_length);
+
+/*
+ * The same with a lent store: reads the sheet into it, and writes the text of
+ * saltreeve_check. The store is left as saltreeve_explain leaves it: what follows
+ * from the statements of an accepted sheet; of a refused one, what the lines before
+ * the refused one gave, or zeros if none of them was a statement or a rule; as it was
+ * if the sheet has over 32,768 bytes. What was in it before does not matter. If
+ * `length` is not 4,528 the sheet is not read, the words stay as they are, and the
+ * text is the line
+ *
+ *   refused 0 1
+ *
+ * with tabs between and a line feed. Returns the number of bytes written; the room
+ * past them is untouched. Returns -8 exactly if the text is longer than the room,
+ * which is then untouched as a whole; the store is left as reading the sheet leaves
+ * it all the same. The sheet, the words and the room must not overlap; NULL is not
+ * allowed, also where a length is 0.
+ */
+int64_t saltreeve_check_in(const uint8_t *sheet, size_t sheet_length,
+                           uint64_t *words, size_t length,
+                           uint8_t *room, size_t room_length);
 
 /*
  * Says why: writes to `room` the text for a question about a sheet. The question

@@ -2,7 +2,8 @@
  * Calls the sheet check as the order-entry host does, and compares.
  *
  *   host_driver           reads commands from standard input (see tests/host_test.py)
- *   host_driver --stack   prints how much stack a call takes, for some sheets
+ *   host_driver --stack   prints how much stack a call takes, for some sheets, and how
+ *                         much the check in a lent store does
  *   host_driver --time    prints the processor time of a call, for the same sheets
  *
  * The last two read sheets of examples/, so they are run from the folder above it. The
@@ -267,6 +268,14 @@ static void check_measured(void)
     measured_result = saltreeve_check((const uint8_t *)measured_sheet, measured_length, measured_room, SALTREEVE_TEXT);
 }
 
+/* Checks it in a lent store. */
+static void check_measured_in(void)
+{
+    static uint64_t words[SALTREEVE_WORDS];
+    measured_result = saltreeve_check_in((const uint8_t *)measured_sheet, measured_length, words, SALTREEVE_WORDS,
+                                         measured_room, SALTREEVE_TEXT);
+}
+
 /* Ends the program if what came out is not what was due. */
 static void require_due(const struct measured *measured)
 {
@@ -283,7 +292,9 @@ static void print_stacks(const struct measured *sheets, size_t count)
         build(&sheets[i]);
         size_t used = stack_used(check_measured);
         require_due(&sheets[i]);
-        printf("%-40s %8zu bytes of stack\n", sheets[i].name, used);
+        size_t used_in = stack_used(check_measured_in);
+        require_due(&sheets[i]);
+        printf("%-40s %8zu bytes of stack, %8zu in a lent store\n", sheets[i].name, used, used_in);
     }
 }
 

@@ -80,15 +80,18 @@ def report_difference(commands, seed, code, lines):
 # Builds the driver with the stand-in, one fault planted or none.
 def build(options):
     harness.compile_file("host_reference.c", "host_selftest_host.o", options)
-    return harness.link([f"host_selftest_{part}.o" for part in ("driver", "store", "rules", "host")], "host_selftest")
+    parts = ("driver", "store", "rules", "read", "host")
+    return harness.link([f"host_selftest_{part}.o" for part in parts], "host_selftest")
 
 
 # Tries the sound stand-in and all faulty ones; 0 if the test judges each rightly.
 def selftest(seed):
     harness.BUILD.mkdir(parents=True, exist_ok=True)
-    for name, result in (("host_driver.c", "driver"), ("reference_store.c", "store"), ("rule_reference.c", "rules")):
+    for name, result in (("host_driver.c", "driver"), ("reference_store.c", "store"), ("rule_reference.c", "rules"),
+                         ("read_reference.c", "read")):
         harness.compile_file(name, f"host_selftest_{result}.o")
-    options = harness.planted("sheet_reference.h", "SHEET_FAULT") + harness.planted("host_reference.c", "HOST_FAULT")
+    options = [option for name, macro in (("sheet_reference.h", "SHEET_FAULT"), ("text_reference.h", "TEXT_FAULT"),
+                                          ("host_reference.c", "HOST_FAULT")) for option in harness.planted(name, macro)]
     return harness.selftest("host", seed, harness.short_test(sys.modules[__name__], seed, SELFTEST_SHEETS), build, options,
                             RIGHT, SPOILED)
 

@@ -184,16 +184,13 @@ def query_of(rule):
 # --- The call under test ---
 
 
-# What the rule is refused by, whatever the room; 0 if by none of -99, -1, -3 and -4.
+# What the rule is refused by, whatever the room; 0 if by none of -1, -3 and -4.
 def rule_refusal(counts, rule_words):
-    if len(rule_words) != oracle_rules.RULE_WORDS:
-        return oracle_rules.REFUSED_RULE_LENGTH
     if oracle.wrong_size((0,) * oracle.WORDS, counts):
         return oracle.REFUSED_SIZE
-    rule = oracle_rules.read_rule(rule_words)
-    if oracle_rules.faults(rule):
+    if oracle_rules.malformed(rule_words):
         return oracle_rules.REFUSED_MALFORMED
-    return oracle.REFUSED_NUMBER if oracle_rules.undeclared(rule, counts) else 0
+    return oracle.REFUSED_NUMBER if oracle_rules.undeclared(oracle_rules.read_rule(rule_words), counts) else 0
 
 
 # What a call with so many words of room is to give for a query of some length and answer variables.

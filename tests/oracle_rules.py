@@ -1,13 +1,14 @@
 """The rules of document 01 by number, worked out in the plainest way.
 
 The tests hold the library against this file. It is written from document 01 alone
-(sections "Sizes", "Rules" and "Numbers of refusal") and from the words that the test
-library takes a rule in (tests/rule_trial.h). A rule is read into these:
+(sections "Sizes", "Rules" and "Numbers of refusal") and from what include/saltreeve.h
+says of the words of a rule. A rule is read into these:
 
     Rule(head, node_count, nodes)   nodes has those below the count, 32 at most
     Part(kind, fields)              a rule's head or a node; each field is what it is
                                     ("node", "item", "concept", "role", "count" or
-                                    "length") and its value
+                                    "length") and its value. UNKNOWN is the kind of a
+                                    number that is no kind's; it has no fields
     Role(number, inverse)           the value of a role field
 
 What holds of which items is kept as in tests/oracle.py: bit a of a row is item a.
@@ -25,8 +26,9 @@ NODE_WORDS = 5
 NODE_LIMIT = 32
 NO_ITEM = 2**64 - 1
 
-REFUSED_RULE_LENGTH = -99
 REFUSED_MALFORMED = -3
+
+UNKNOWN = "unknown"
 
 Role = namedtuple("Role", "number inverse")
 Part = namedtuple("Part", "kind fields")
@@ -62,11 +64,11 @@ NODE_FIELDS = {
 # --- Reading the words of a rule ---
 
 
-# A head or a node from its words; a number that is no kind's is read as `other`.
-def read_part(table, other, words):
-    kind = list(table)[words[0]] if words[0] < len(table) else other
+# A head or a node from its words.
+def read_part(table, words):
+    kind = list(table)[words[0]] if words[0] < len(table) else UNKNOWN
     fields, rest = [], list(words[1:])
-    for what in table[kind]:
+    for what in table.get(kind, ()):
         value = rest.pop(0)
         fields.append((what, Role(value, rest.pop(0) != 0) if what == "role" else value))
     return Part(kind, tuple(fields))
@@ -81,8 +83,8 @@ def node_words(words, number):
 # A rule from its 173 words.
 def read_rule(words):
     count = words[HEAD_WORDS]
-    head = read_part(RULE_FIELDS, "differ", words[:HEAD_WORDS])
-    nodes = [read_part(NODE_FIELDS, "top", node_words(words, n)) for n in range(min(count, NODE_LIMIT))]
+    head = read_part(RULE_FIELDS, words[:HEAD_WORDS])
+    nodes = [read_part(NODE_FIELDS, node_words(words, n)) for n in range(min(count, NODE_LIMIT))]
     return Rule(head, count, nodes)
 
 
@@ -92,6 +94,11 @@ def values(part, what):
 
 
 # --- Refusal 3 ---
+
+
+# "a kind of rule or a kind of node that is not one of these" (include/saltreeve.h)
+def unknown_kind(rule):
+    return any(part.kind == UNKNOWN for part in (rule.head, *rule.nodes))
 
 
 # "over 32 nodes"
@@ -132,12 +139,17 @@ def node_not_used_once(rule):
     return any(not used_once(all_uses, number) for number in range(len(rule.nodes)))
 
 
-FAULTS = (too_many_nodes, count_outside, chain_outside, use_not_there, node_not_used_once)
+FAULTS = (unknown_kind, too_many_nodes, count_outside, chain_outside, use_not_there, node_not_used_once)
 
 
 # The ways in which a rule is malformed.
 def faults(rule):
     return [fault for fault in FAULTS if fault(rule)]
+
+
+# Whether the words of a rule are malformed: "another number of words" (include/saltreeve.h), or in one of these ways.
+def malformed(words):
+    return len(words) != RULE_WORDS or bool(faults(read_rule(words)))
 
 
 # --- Refusal 4 ---
@@ -360,17 +372,15 @@ def closed_cells(words, counts):
 
 
 # What the call is to give: its result, and all findings.
-def trial(words, counts, rule_words):
-    if len(rule_words) != RULE_WORDS:
-        return REFUSED_RULE_LENGTH, []
+def answer(words, counts, rule_words):
     if oracle.wrong_size(words, counts):
         return oracle.REFUSED_SIZE, []
     cells = closed_cells(words, counts)
     if cells is None:
         return oracle.REFUSED_NOT_CLOSED, []
-    rule = read_rule(rule_words)
-    if faults(rule):
+    if malformed(rule_words):
         return REFUSED_MALFORMED, []
+    rule = read_rule(rule_words)
     if undeclared(rule, counts):
         return oracle.REFUSED_NUMBER, []
     found = findings(cells, rule)

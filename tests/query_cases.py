@@ -16,13 +16,13 @@ import rule_cases
 from oracle import LIMITS, Counts
 from oracle_queries import (CLOSE_NOT, CONCEPT, EQUALITY, ITEM_WORDS, MOST_ITEMS, OPEN_NOT, REFUSED_ROOM,
                             REFUSED_TOO_LONG, ROLE, Query)
-from oracle_rules import NODE_FIELDS, NODE_LIMIT, RULE_FIELDS
+from oracle_rules import NODE_FIELDS, NODE_LIMIT, RULE_FIELDS, RULE_WORDS
 from rule_cases import (HUGE, NAME_0, NAME_1, RULES_A_STORE, TOP, WRONG_RULE_LENGTHS, RuleDrawer, lay_out,
                         listed, nest, require, spoil_numbers)
 
 MOST_STEPS = 20000   # for the answers to one query
 MOST_ROOM = ITEM_WORDS * MOST_ITEMS
-RESULTS = (0, -1, -3, -4, -5, -6, -99)
+RESULTS = (0, -1, -3, -4, -5, -6)
 
 Call = namedtuple("Call", "counts rule_words room")
 
@@ -60,6 +60,7 @@ class Commands(rule_cases.Commands):
                    f"{numbers((len(lengths), *(number for pair in zip(lengths, results) for number in pair)))}\n")
         self.calls += [Call(counts, rule_words, room) for room in lengths]
         self.rules += 1
+        self.other_lengths += len(rule_words) != RULE_WORDS
         self.results.update(min(result, 0) for result in results)
         if not refusal:
             self.note(rule_words, length)
@@ -410,14 +411,14 @@ def all_wrong(commands, rng, rule_length, size, malformed, undeclared, too_long,
     return result
 
 
-# Every set of things that can be wrong, with the refusal that comes first.
+# Every set of things that can be wrong, with the lowest number that applies.
 def orders(commands, seed, rounds):
     for number in range(rounds):
         rng = commands.part(seed, "order", number)
         for choice in range(64):
             wrong = [choice >> place & 1 == 1 for place in range(6)]
-            due = next((refusal for refusal, is_wrong in zip((-99, -1, -3, -4, REFUSED_TOO_LONG, REFUSED_ROOM), wrong)
-                        if is_wrong), 0)
+            due = max((refusal for refusal, is_wrong in zip((-3, -1, -3, -4, REFUSED_TOO_LONG, REFUSED_ROOM), wrong)
+                       if is_wrong), default=0)
             require(all_wrong(commands, rng, *wrong) == due, "the oracle gives another refusal first")
 
 
@@ -444,6 +445,7 @@ def write_all(commands, seed, rules, rounds):
     cut_lengths(commands, seed)
     nests(commands, seed)
     rule_cases.malformed_rules(commands, seed, rounds)
+    rule_cases.other_lengths(commands, seed, rounds)
     rule_cases.undeclared_numbers(commands, seed)
     rule_cases.numbers_not_asked(commands, seed, rounds)
     orders(commands, seed, rounds)

@@ -1,5 +1,5 @@
 /*
- * Calls the test library's compiled queries, and compares.
+ * Calls the library's compiled queries, and compares.
  *
  *   query_driver           reads commands from standard input (see tests/query_test.py)
  *   query_driver --stack   prints how much stack the deepest rules take
@@ -26,16 +26,13 @@
 
 #include "calls.h"
 #include "measure.h"
-#include "rule_trial.h"
 #include "saltreeve.h"
-
-enum { MOST_QUERY_WORDS = 4 * 512 };
 
 /* What is lent, what is due, and where the test is. */
 struct run {
     struct lent rule, room;
     uint64_t items, concepts, roles;
-    uint16_t query[MOST_QUERY_WORDS];  /* the words due */
+    uint16_t query[SALTREEVE_QUERY_WORDS];  /* the words due */
     size_t query_words;
     int64_t result;
     struct place place;
@@ -66,8 +63,8 @@ static void call_once(struct run *run)
 {
     next_call(&run->place, run->room.length);
     alarm(CALL_SECONDS);
-    int64_t got = trial_compile(run->items, run->concepts, run->roles, run->rule.entries, run->rule.length,
-                                run->room.entries, run->room.length);
+    int64_t got = saltreeve_compile(run->items, run->concepts, run->roles, run->rule.entries, run->rule.length,
+                                    run->room.entries, run->room.length);
     alarm(0);
     compare_call(run, got);
 }
@@ -76,7 +73,7 @@ static void call_once(struct run *run)
 static void read_query(struct run *run)
 {
     run->query_words = read_number();
-    if (run->query_words > MOST_QUERY_WORDS)
+    if (run->query_words > SALTREEVE_QUERY_WORDS)
         stop("a query is too long");
     for (size_t i = 0; i < run->query_words; i++)
         run->query[i] = (uint16_t)read_number();
@@ -120,10 +117,6 @@ static void run_commands(void)
 
 enum { TIMED_CALLS = 2000 };
 
-/* The kinds of rules and of nodes that are measured. */
-enum { SUB = 0, IN = 6 };
-enum { NAME = 0, NOT = 2, AND = 3, AT_LEAST = 4 };
-
 /* A rule to be measured, and the result due. */
 struct measured {
     const char *name;
@@ -133,27 +126,27 @@ struct measured {
 };
 
 static const struct measured MEASURED[] = {
-    {"in, no node but a name", IN, NAME, 0, 0, 4 * 3},
-    {"in, 31 nested nots", IN, NOT, 0, 31, 4 * 65},
-    {"in, 31 nested at least 1", IN, AT_LEAST, 1, 31, 4 * 34},
-    {"sub, 30 nested at least 1", SUB, AT_LEAST, 1, 30, 4 * 34 + 1},
-    {"sub, 30 nested nots", SUB, NOT, 0, 30, 4 * 64 + 1},
-    {"sub, 15 nested ands", SUB, AND, 0, 15, 4 * 19 + 1},
-    {"sub, 2 nested at least 6", SUB, AT_LEAST, 6, 2, 4 * 396 + 1},
-    {"sub, 30 nested at least 8, too long", SUB, AT_LEAST, 8, 30, -5},
+    {"in, no node but a name", SALTREEVE_IN, SALTREEVE_NODE_NAME, 0, 0, 4 * 3},
+    {"in, 31 nested nots", SALTREEVE_IN, SALTREEVE_NODE_NOT, 0, 31, 4 * 65},
+    {"in, 31 nested at least 1", SALTREEVE_IN, SALTREEVE_NODE_AT_LEAST, 1, 31, 4 * 34},
+    {"sub, 30 nested at least 1", SALTREEVE_SUB, SALTREEVE_NODE_AT_LEAST, 1, 30, 4 * 34 + 1},
+    {"sub, 30 nested nots", SALTREEVE_SUB, SALTREEVE_NODE_NOT, 0, 30, 4 * 64 + 1},
+    {"sub, 15 nested ands", SALTREEVE_SUB, SALTREEVE_NODE_AND, 0, 15, 4 * 19 + 1},
+    {"sub, 2 nested at least 6", SALTREEVE_SUB, SALTREEVE_NODE_AT_LEAST, 6, 2, 4 * 396 + 1},
+    {"sub, 30 nested at least 8, too long", SALTREEVE_SUB, SALTREEVE_NODE_AT_LEAST, 8, 30, -5},
 };
 
 /* The rule that is measured, where it is written, and what came out. */
-static uint64_t measured_rule[TRIAL_RULE_WORDS];
-static uint16_t measured_room[MOST_QUERY_WORDS];
+static uint64_t measured_rule[SALTREEVE_RULE_WORDS];
+static uint16_t measured_room[SALTREEVE_QUERY_WORDS];
 static int64_t measured_result;
 
 /* Adds a node to the rule that is measured. */
 static void node(uint64_t kind, uint64_t a, uint64_t b, uint64_t c, uint64_t d)
 {
     uint64_t words[] = {kind, a, b, c, d};
-    memcpy(measured_rule + 13 + 5 * measured_rule[12], words, sizeof words);
-    measured_rule[12]++;
+    uint64_t number = measured_rule[SALTREEVE_NODE_COUNT]++;
+    memcpy(measured_rule + SALTREEVE_FIRST_NODE + SALTREEVE_NODE_WORDS * number, words, sizeof words);
 }
 
 /* Writes the rule that is to be measured. */
@@ -163,26 +156,26 @@ static void build(const struct measured *measured)
     memset(measured_rule, 0, sizeof measured_rule);
     measured_rule[0] = measured->head;
     for (; n < measured->depth; n++) {
-        uint64_t next = measured_rule[12] + 1;
-        if (measured->kind == AND) {
-            node(AND, next, next + 1, 0, 0);
-            node(NAME, 0, 0, 0, 0);
-        } else if (measured->kind == AT_LEAST)
-            node(AT_LEAST, measured->count, n % SALTREEVE_ROLES, n % 2, next);
+        uint64_t next = measured_rule[SALTREEVE_NODE_COUNT] + 1;
+        if (measured->kind == SALTREEVE_NODE_AND) {
+            node(SALTREEVE_NODE_AND, next, next + 1, 0, 0);
+            node(SALTREEVE_NODE_NAME, 0, 0, 0, 0);
+        } else if (measured->kind == SALTREEVE_NODE_AT_LEAST)
+            node(SALTREEVE_NODE_AT_LEAST, measured->count, n % SALTREEVE_ROLES, n % 2, next);
         else
-            node(NOT, next, 0, 0, 0);
+            node(SALTREEVE_NODE_NOT, next, 0, 0, 0);
     }
-    node(NAME, 1, 0, 0, 0);
-    measured_rule[2] = measured->head == SUB ? measured_rule[12] : SALTREEVE_ITEMS - 1;
-    if (measured->head == SUB)
-        node(NAME, 2, 0, 0, 0);
+    node(SALTREEVE_NODE_NAME, 1, 0, 0, 0);
+    measured_rule[2] = measured->head == SALTREEVE_SUB ? measured_rule[SALTREEVE_NODE_COUNT] : SALTREEVE_ITEMS - 1;
+    if (measured->head == SALTREEVE_SUB)
+        node(SALTREEVE_NODE_NAME, 2, 0, 0, 0);
 }
 
 /* Compiles the rule that is measured. */
 static void compile_measured(void)
 {
-    measured_result = trial_compile(SALTREEVE_ITEMS, SALTREEVE_CONCEPTS, SALTREEVE_ROLES, measured_rule,
-                                    TRIAL_RULE_WORDS, measured_room, MOST_QUERY_WORDS);
+    measured_result = saltreeve_compile(SALTREEVE_ITEMS, SALTREEVE_CONCEPTS, SALTREEVE_ROLES, measured_rule,
+                                        SALTREEVE_RULE_WORDS, measured_room, SALTREEVE_QUERY_WORDS);
 }
 
 /* Ends the program if what came out is not what was due. */

@@ -1,7 +1,7 @@
 /*
  * A plain stand-in for compiled queries, to try the tests on.
  *
- * It has the same face as the test library. It proves nothing. The self-test also
+ * It has the same face as the library. It proves nothing. The self-test also
  * builds it with one fault planted, -DQUERY_FAULT=ALWAYS_EMPTY or another of those
  * listed below or in tests/rule_shape.h, and asks that the tests find it.
  */
@@ -38,6 +38,9 @@ enum fault {
     ITEMS_129_TAKEN,           /* 129 items are taken */
     CONCEPTS_32_REFUSED,       /* 32 concepts are refused */
     LONG_RULE_TAKEN,           /* a rule of more than 173 words is taken */
+    SHORT_RULE_TAKEN,          /* a rule of less than 173 words is read as if zeros followed */
+    LENGTH_BEFORE_COUNTS,      /* 3 is given for a rule's length where 1 is due */
+    LENGTH_AS_SIZE,            /* a rule of another length is refused by 1 */
     WRITES_BEFORE_5,           /* a query that is too long is written before it is refused */
     WRITES_BEFORE_6,           /* a query is written as far as it fits before it is refused */
     REFUSAL_CLEARS,            /* a refusal clears the first word */
@@ -101,11 +104,13 @@ enum fault {
 #endif
 
 enum {
-    REFUSED_COUNTS = -1, REFUSED_MALFORMED = -3, REFUSED_NUMBER = -4, REFUSED_TOO_LONG = -5, REFUSED_ROOM = -6,
-    WRONG_LENGTH = -99
+    REFUSED_COUNTS = -1, REFUSED_MALFORMED = -3, REFUSED_NUMBER = -4, REFUSED_TOO_LONG = -5, REFUSED_ROOM = -6
 };
-enum { CONCEPT_ATOM = 1, ROLE_ATOM, EQUALITY, OPEN_NOT, CLOSE_NOT };
-enum { MOST_ITEMS = 512, ITEM_WORDS = 4, FIRST_ITEM = 4096 };
+enum {
+    CONCEPT_ATOM = SALTREEVE_QUERY_CONCEPT, ROLE_ATOM = SALTREEVE_QUERY_ROLE, EQUALITY = SALTREEVE_QUERY_EQUALITY,
+    OPEN_NOT = SALTREEVE_QUERY_OPEN, CLOSE_NOT = SALTREEVE_QUERY_CLOSE
+};
+enum { ITEM_WORDS = 4, MOST_ITEMS = SALTREEVE_QUERY_WORDS / ITEM_WORDS, FIRST_ITEM = SALTREEVE_QUERY_ITEM };
 
 /* Where a query is written: the room, how many items there were so far, and the next free variable. */
 struct writer {
@@ -505,13 +510,17 @@ static int too_small(size_t room, uint64_t length)
     return room + (QUERY_FAULT == ROOM_ONE_SHORT_TAKEN) < ITEM_WORDS * length + (QUERY_FAULT == ROOM_EXACT_REFUSED);
 }
 
-/* The refusal of a rule that has 173 words, or 0. */
-static int64_t refusal(const struct call *c, size_t room)
+/* The refusal of a rule, or 0; `whole` says whether it has its length. */
+static int64_t refusal(const struct call *c, int whole, size_t room)
 {
-    if (QUERY_FAULT == SHAPE_BEFORE_COUNTS && malformed(c->rule))
+    if (QUERY_FAULT == LENGTH_BEFORE_COUNTS && !whole)
+        return REFUSED_MALFORMED;
+    if (QUERY_FAULT == SHAPE_BEFORE_COUNTS && whole && malformed(c->rule))
         return REFUSED_MALFORMED;
     if (counts_over(c))
         return REFUSED_COUNTS;
+    if (!whole)
+        return QUERY_FAULT == LENGTH_AS_SIZE ? REFUSED_COUNTS : REFUSED_MALFORMED;
     if (QUERY_FAULT == NUMBERS_BEFORE_SHAPE && !declared(c))
         return REFUSED_NUMBER;
     if (malformed(c->rule))
@@ -556,7 +565,7 @@ static void spoil(struct writer *w)
     if (QUERY_FAULT == WRITES_PAST_THE_ROOM)
         w->room[w->room_length] = 0;
     if (QUERY_FAULT == CHANGES_THE_RULE)
-        ((uint64_t *)w->rule)[TRIAL_RULE_WORDS - 1] ^= 1;
+        ((uint64_t *)w->rule)[SALTREEVE_RULE_WORDS - 1] ^= 1;
 }
 
 /* The room that a query is written to, as some faults see it. */
@@ -569,15 +578,17 @@ static size_t seen_room(const uint64_t *rule, size_t room_length)
 }
 
 /* Compiles a rule to a query. */
-int64_t trial_compile(uint64_t items, uint64_t concepts, uint64_t roles,
-                      const uint64_t *rule, size_t rule_length,
-                      uint16_t *room, size_t room_length)
+int64_t saltreeve_compile(uint64_t items, uint64_t concepts, uint64_t roles,
+                          const uint64_t *given, size_t rule_length,
+                          uint16_t *room, size_t room_length)
 {
+    uint64_t padded[SALTREEVE_RULE_WORDS];
+    int taken = (QUERY_FAULT == LONG_RULE_TAKEN && rule_length > SALTREEVE_RULE_WORDS)
+        || (QUERY_FAULT == SHORT_RULE_TAKEN && rule_length < SALTREEVE_RULE_WORDS);
+    const uint64_t *rule = taken ? padded_rule(given, rule_length, padded) : given;
     struct call c = {NULL, items, concepts, roles, rule};
     struct writer w = {rule, room, room_length, 0, 0, 0};
-    if (rule_length != TRIAL_RULE_WORDS && !(QUERY_FAULT == LONG_RULE_TAKEN && rule_length > TRIAL_RULE_WORDS))
-        return WRONG_LENGTH;
-    int64_t refused = refusal(&c, room_length);
+    int64_t refused = refusal(&c, taken || rule_length == SALTREEVE_RULE_WORDS, room_length);
     if (refused != 0) {
         spoil_refusal(&w, refused);
         return refused;

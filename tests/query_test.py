@@ -3,7 +3,7 @@
     python3 tests/query_test.py DRIVER [--seed N|random] [--rules N]
     python3 tests/query_test.py --selftest
 
-DRIVER is tests/query_driver.c linked with the test library. The self-test needs a C
+DRIVER is tests/query_driver.c linked with the library. The self-test needs a C
 compiler and no library: it tries the test itself on a stand-in, sound and faulty.
 """
 
@@ -49,9 +49,9 @@ def report_difference(commands, seed, code, lines):
 
 # Prints what was run.
 def report_agreement(commands, seed):
-    refused = ", ".join(f"by {-result}: {commands.results[result]}" for result in query_cases.RESULTS[1:-1])
+    refused = ", ".join(f"by {-result}: {commands.results[result]}" for result in query_cases.RESULTS[1:])
     print(f"queries: {commands.rules} rules, {len(commands.calls)} calls ({commands.results[0]} queries compared word "
-          f"for word; refused {refused}, for the rule's length: {commands.results[-99]}); {sum(commands.answered.values())} "
+          f"for word; refused {refused}; {commands.other_lengths} rules have another length); {sum(commands.answered.values())} "
           f"queries answered by trying every item, {commands.findings} answers, {commands.given_up} given up, "
           f"seed {seed}: all agree")
 

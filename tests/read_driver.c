@@ -1,8 +1,8 @@
 /*
- * Reads sheets into lent stores, and compares.
+ * Checks sheets in lent stores, and compares.
  *
  *   read_driver                  reads commands from standard input (see tests/read_test.py)
- *   read_driver --time SHEET..   prints the mean time of reading the worst sheets, and
+ *   read_driver --time SHEET..   prints the mean time of checking the worst sheets, and
  *                                those in the files given
  *
  * The commands are words and decimal numbers parted by blanks. A list of words is
@@ -11,16 +11,17 @@
  *
  *   part NAME NUMBER     names the part of the test that comes next
  *   sheet LENGTH BYTES   lends a sheet
- *   answer LIST          says which words are due as the answer
+ *   text LENGTH BYTES    says which text is due
  *   after LIST           says which words are due in the store
  *   untouched            says that the store is to stay as it is
  *   call NUMBER LENGTH ROOM
  *                        makes a call. The store has LENGTH words of garbage, of which
  *                        there is other for each NUMBER; where NUMBER is 0, the store is
- *                        as the call before left it. The answer has ROOM words: if that is
- *                        too few, -99 is due, and the store is to stay as it is
+ *                        as the call before left it. The room has ROOM bytes: if the text
+ *                        fits into them, it is due there, and its length is the result;
+ *                        otherwise -8 is due. The words due in the store are so in both cases
  *
- * After every call the result, the sheet, all words of the store and of the answer's room
+ * After every call the result, the sheet, all words of the store and all bytes of the room
  * are compared, also the bytes kept around those lent. The first difference is printed
  * and ends the program with 1. A call that fails, or does not come back within some
  * seconds, ends it by a signal; which call it was is printed.
@@ -28,17 +29,16 @@
 #define _POSIX_C_SOURCE 199309L
 
 #include "calls.h"
-#include "read_trial.h"
 #include "saltreeve.h"
 
 #include <time.h>
 
-enum { NO_ROOM = -99, AS_LEFT = 0 };
+enum { TEXT_TOO_LONG = -8, AS_LEFT = 0 };
 
 /* What is lent, what is due, and where the test is. */
 struct run {
-    struct lent sheet, store, out;
-    struct lent answer, after;
+    struct lent sheet, store, room;
+    struct lent text, after;
     int touched;  /* whether the words of `after` are due */
     struct place place;
 };
@@ -54,10 +54,10 @@ static uint64_t garbage(uint64_t number, uint64_t at)
 /* The result that is due. */
 static int64_t result_due(const struct run *run)
 {
-    return run->out.length < TRIAL_ANSWER_WORDS ? NO_ROOM : 0;
+    return run->text.length <= run->room.length ? (int64_t)run->text.length : TEXT_TOO_LONG;
 }
 
-/* Says which words of a list are due, from its start. */
+/* Says which entries of a list are due, from its start. */
 static void set_all_due(struct lent *lent, const struct lent *due)
 {
     if (lent->length < due->length)
@@ -82,10 +82,9 @@ static void lend_call(struct run *run)
         lend_garbage(&run->store, number, length);
     if (run->store.length != length)
         stop("the store has another length");
-    lend(&run->out, sizeof(uint64_t), read_number(), GUARD);
-    if (result_due(run) == NO_ROOM)
-        return;
-    set_all_due(&run->out, &run->answer);
+    lend(&run->room, 1, read_number(), GUARD);
+    if (result_due(run) >= 0)
+        set_all_due(&run->room, &run->text);
     if (run->touched)
         set_all_due(&run->store, &run->after);
 }
@@ -93,13 +92,13 @@ static void lend_call(struct run *run)
 /* Ends the program if the result or a word is not what it should be. */
 static void compare_call(const struct run *run, int64_t got)
 {
-    if (got == result_due(run) && as_due(&run->sheet) && as_due(&run->store) && as_due(&run->out))
+    if (got == result_due(run) && as_due(&run->sheet) && as_due(&run->store) && as_due(&run->room))
         return;
     printf("%s", place_text);
     printf("result: expected %" PRId64 ", got %" PRId64 "\n", result_due(run), got);
     print_entries("sheet", &run->sheet);
     print_entries("store", &run->store);
-    print_entries("answer", &run->out);
+    print_entries("room", &run->room);
     exit(1);
 }
 
@@ -107,10 +106,10 @@ static void compare_call(const struct run *run, int64_t got)
 static void do_call(struct run *run)
 {
     lend_call(run);
-    next_call(&run->place, run->out.length);
+    next_call(&run->place, run->room.length);
     alarm(CALL_SECONDS);
-    int64_t got = trial_read(run->sheet.entries, run->sheet.length, run->store.entries, run->store.length,
-                             run->out.entries, run->out.length);
+    int64_t got = saltreeve_check_in(run->sheet.entries, run->sheet.length, run->store.entries, run->store.length,
+                                     run->room.entries, run->room.length);
     alarm(0);
     compare_call(run, got);
 }
@@ -120,8 +119,8 @@ static void do_command(struct run *run, const char *word)
 {
     if (strcmp(word, "sheet") == 0)
         lend_bytes(&run->sheet);
-    else if (strcmp(word, "answer") == 0)
-        lend_list(&run->answer);
+    else if (strcmp(word, "text") == 0)
+        lend_bytes(&run->text);
     else if (strcmp(word, "after") == 0) {
         lend_list(&run->after);
         run->touched = 1;
@@ -143,8 +142,8 @@ static void run_commands(void)
         do_command(&run, word);
     take_back(&run.sheet);
     take_back(&run.store);
-    take_back(&run.out);
-    take_back(&run.answer);
+    take_back(&run.room);
+    take_back(&run.text);
     take_back(&run.after);
     say_done(&run.place);
 }
@@ -155,7 +154,7 @@ enum {
     SHEET_BYTES = 32768, RULES = 64, LETTERS = 64, DEPTH = 30, MOST_CALLS = 200
 };
 
-static const double TIMED_SECONDS = 1;  /* after which a sheet is read no more */
+static const double TIMED_SECONDS = 1;  /* after which a sheet is checked no more */
 
 /* A sheet that is timed. */
 struct timed {
@@ -264,18 +263,22 @@ static void unders(struct timed *sheet)
             add_line(sheet, "under", 2, (size_t[]){under, over});
 }
 
-/* The sheets that are timed, and what reading each gives. */
+/* The sheets that are timed, and the last line of the text of each. */
 static const struct timing {
     const char *name;
     void (*build)(struct timed *);
-    uint64_t due[TRIAL_ANSWER_WORDS];
+    const char *due;
 } TIMINGS[] = {
-    {"header, then line feeds only", line_feeds, {1, 0, 0, 0, 0, 0}},
-    {"all same, all linked, 64 rules of 32 nodes", deep_rules, {1, 128, 32, 16, 64, 0}},
-    {"all same, 64 chains of 4, all pairs found", chains, {1, 128, 32, 16, 64, 1048576}},
-    {"3,000 links", links, {1, 64, 0, 16, 0, 0}},
-    {"496 unders", unders, {1, 128, 32, 16, 0, 0}},
+    {"header, then line feeds only", line_feeds, "total\t0\n"},
+    {"all same, all linked, 64 rules of 32 nodes", deep_rules, "total\t0\n"},
+    {"all same, 64 chains of 4, all pairs found", chains, "total\t1048576\n"},
+    {"3,000 links", links, "total\t0\n"},
+    {"496 unders", unders, "total\t0\n"},
 };
+
+/* The text of the sheet that was timed last. */
+static uint8_t timed_text[SALTREEVE_TEXT];
+static size_t timed_length;
 
 /* Seconds since some fixed moment. */
 static double seconds(void)
@@ -285,29 +288,36 @@ static double seconds(void)
     return (double)now.tv_sec + (double)now.tv_nsec / 1e9;
 }
 
-/* Reads a sheet some times and prints how long that takes; `answer` is what it gives. */
-static void time_sheet(const char *name, const struct timed *sheet, uint64_t answer[TRIAL_ANSWER_WORDS])
+/* Checks a sheet some times and prints how long that takes. */
+static void time_sheet(const char *name, const struct timed *sheet)
 {
     static uint64_t words[SALTREEVE_WORDS];
     int calls = 0;
     double start = seconds(), spent = 0;
     for (; calls < MOST_CALLS && spent < TIMED_SECONDS; calls++) {
         alarm(CALL_SECONDS);
-        trial_read((const uint8_t *)sheet->bytes, sheet->length, words, SALTREEVE_WORDS, answer, TRIAL_ANSWER_WORDS);
+        timed_length = (size_t)saltreeve_check_in((const uint8_t *)sheet->bytes, sheet->length, words, SALTREEVE_WORDS,
+                                                  timed_text, SALTREEVE_TEXT);
         alarm(0);
         spent = seconds() - start;
     }
     printf("%-44s %6zu bytes %10.2f milliseconds a sheet (%d calls)\n", name, sheet->length, spent * 1e3 / calls, calls);
 }
 
-/* Times the worst sheets; an answer that is not due ends the program. */
+/* Whether the text of the sheet that was timed last ends so. */
+static int ends_in(const char *line)
+{
+    size_t length = strlen(line);
+    return length <= timed_length && memcmp(timed_text + timed_length - length, line, length) == 0;
+}
+
+/* Times the worst sheets; a text that is not due ends the program. */
 static void time_worst(struct timed *sheet)
 {
     for (size_t i = 0; i < sizeof TIMINGS / sizeof TIMINGS[0]; i++) {
-        uint64_t answer[TRIAL_ANSWER_WORDS];
         TIMINGS[i].build(sheet);
-        time_sheet(TIMINGS[i].name, sheet, answer);
-        if (memcmp(answer, TIMINGS[i].due, sizeof answer) != 0)
+        time_sheet(TIMINGS[i].name, sheet);
+        if (!ends_in(TIMINGS[i].due))
             stop("a timed sheet comes to something else");
     }
 }
@@ -315,14 +325,13 @@ static void time_worst(struct timed *sheet)
 /* Times the sheet in a file; one that is refused ends the program. */
 static void time_file(struct timed *sheet, const char *name)
 {
-    uint64_t answer[TRIAL_ANSWER_WORDS];
     FILE *file = fopen(name, "rb");
     if (file == NULL)
         stop("a file cannot be read");
     sheet->length = fread(sheet->bytes, 1, sizeof sheet->bytes, file);
     fclose(file);
-    time_sheet(name, sheet, answer);
-    if (answer[0] != 1)
+    time_sheet(name, sheet);
+    if (timed_text[0] == 'r')
         stop("the sheet in the file is refused");
 }
 

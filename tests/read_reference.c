@@ -1,13 +1,12 @@
 /*
- * A plain stand-in for reading a sheet into a lent store, to try the tests on.
+ * A plain stand-in for the check of a sheet in a lent store, to try the tests on.
  *
- * It has the same face as the test library. Reading the sheet is left to
- * tests/sheet_reference.h. It is slow and proves nothing. The self-test also builds it
- * with one fault planted, -DREAD_FAULT=REFUSED_UNTOUCHED or another of those listed below,
- * and asks that the tests find it.
+ * It has the same face as the library. Reading the sheet and writing the text are left to
+ * tests/sheet_reference.h and tests/text_reference.h. It is slow and proves nothing. The
+ * self-test also builds it with one fault planted, -DREAD_FAULT=REFUSED_UNTOUCHED or another
+ * of those listed below or in those two, and asks that the tests find it.
  */
-#include "read_trial.h"
-#include "sheet_reference.h"
+#include "text_reference.h"
 
 enum read_fault {
     NO_READ_FAULT,
@@ -30,20 +29,11 @@ enum read_fault {
     TOO_LONG_FIRST,         /* a sheet that is too long is refused before the store's length is asked */
     FAULTS_FIRST,           /* a faulty sheet is refused before the store's length is asked */
     LENGTH_AT_LINE_1,       /* a store of a wrong length is refused at line 1 */
+    LENGTH_BY_9,            /* a store of a wrong length is refused by 9 */
+    LENGTH_AS_RESULT,       /* a store of a wrong length is answered by -1, without a text */
     WRONG_LENGTH_ZERO,      /* a store of a wrong length is left as zeros */
-    TOTAL_OF_PRINTED,       /* the findings are counted as far as they are printed */
-    TOTAL_OF_LAST_RULE,     /* the findings of the last rule are counted */
-    TOTAL_OF_BROKEN,        /* the rules that are broken are counted */
-    TOTAL_OF_16_BITS,       /* the findings are counted in 16 bits */
-    COUNTS_TURNED,          /* the concepts stand before the items */
-    STATEMENTS_FOR_RULES,   /* the statements are counted for the rules */
-    REFUSED_WITH_RULES,     /* a refusal has the rules after it */
-    NUMBER_BEFORE_LINE,     /* the number of refusal stands before the line */
-    ROOM_UNASKED,           /* the answer is cut where its room ends */
-    ROOM_OF_5,              /* a room of one word too few is taken */
-    ROOM_OF_7,              /* the room must have one word more than the answer */
-    READS_WITHOUT_ROOM,     /* the store is written though the answer has no room */
-    CLEARS_THE_ROOM,        /* the room's words past the answer are cleared */
+    UNREAD_BEFORE_8,        /* the store is left as it was where the room is too short */
+    CLEARED_BEFORE_8,       /* the store is cleared where the room is too short */
     CHANGES_THE_SHEET       /* the sheet's first byte is changed */
 };
 
@@ -51,30 +41,14 @@ enum read_fault {
 #define READ_FAULT NO_READ_FAULT
 #endif
 
-enum { NO_ROOM = -99 };
+enum { REFUSED_SIZE = -1 };
 
-/* What reading comes to: the answer, and whether the store is written. */
+/* What reading comes to: the line and the number of refusal, which is 0 for an accepted sheet, and whether the store is
+   written. */
 struct outcome {
     uint64_t line, refused;
-    uint64_t answer[TRIAL_ANSWER_WORDS];
     int touched;
 };
-
-/* How many findings the rules of a sheet have. */
-static uint64_t count_findings(const struct sheet *sheet)
-{
-    static uint64_t out[2 * PAIRS];
-    uint64_t total = 0;
-    for (size_t i = 0; i < sheet->rule_count; i++) {
-        uint64_t found = (uint64_t)judge(sheet, &sheet->rules[i], out);
-        if (READ_FAULT == TOTAL_OF_LAST_RULE)
-            total = 0;
-        total += READ_FAULT == TOTAL_OF_BROKEN ? found > 0 : found;
-    }
-    if (READ_FAULT == TOTAL_OF_PRINTED && total > MOST_PRINTED)
-        total = MOST_PRINTED;
-    return READ_FAULT == TOTAL_OF_16_BITS ? (uint16_t)total : total;
-}
 
 /* Whether a store of this length is taken. */
 static int length_taken(size_t length)
@@ -87,25 +61,6 @@ static int length_taken(size_t length)
 static int refused_first(const struct outcome *outcome)
 {
     return (READ_FAULT == TOO_LONG_FIRST && outcome->refused == 9) || (READ_FAULT == FAULTS_FIRST && outcome->refused != 0);
-}
-
-/* Writes the answer for a sheet. */
-static void set_answer(struct outcome *outcome, const struct sheet *sheet)
-{
-    uint64_t *answer = outcome->answer;
-    memset(answer, 0, sizeof outcome->answer);
-    answer[0] = outcome->refused == 0;
-    if (outcome->refused == 0) {
-        answer[1 + (READ_FAULT == COUNTS_TURNED)] = sheet->items.count;
-        answer[2 - (READ_FAULT == COUNTS_TURNED)] = sheet->concepts.count;
-        answer[3] = sheet->roles.count;
-        answer[4] = READ_FAULT == STATEMENTS_FOR_RULES ? sheet->statements : sheet->rule_count;
-        answer[5] = count_findings(sheet);
-    } else {
-        answer[1 + (READ_FAULT == NUMBER_BEFORE_LINE)] = outcome->line;
-        answer[2 - (READ_FAULT == NUMBER_BEFORE_LINE)] = outcome->refused;
-        answer[4] = READ_FAULT == REFUSED_WITH_RULES ? sheet->rule_count : 0;
-    }
 }
 
 /* What some faults make of the store of a refused sheet. */
@@ -134,7 +89,7 @@ static void spoil_accepted(struct outcome *outcome, struct sheet *sheet)
 static void refuse_length(struct outcome *outcome, struct sheet *sheet)
 {
     outcome->line = READ_FAULT == LENGTH_AT_LINE_1;
-    outcome->refused = 1;
+    outcome->refused = READ_FAULT == LENGTH_BY_9 ? 9 : 1;
     outcome->touched = READ_FAULT == WRONG_LENGTH_ZERO;
     begin(sheet);
 }
@@ -149,11 +104,6 @@ static void read_all(struct outcome *outcome, struct sheet *sheet, const uint8_t
     outcome->touched = outcome->refused != 9 || READ_FAULT == TOO_LONG_ZERO;
     if (!taken && !refused_first(outcome))
         refuse_length(outcome, sheet);
-    set_answer(outcome, sheet);
-    if (outcome->refused > 1)
-        spoil_refused(outcome, sheet);
-    if (outcome->refused == 0)
-        spoil_accepted(outcome, sheet);
 }
 
 /* Writes the store. */
@@ -166,30 +116,36 @@ static void write_store(uint64_t *words, size_t length, const struct sheet *shee
         words[length] = 0;
 }
 
-/* Whether there is room for the answer. */
-static int has_room(size_t room)
+/* What some faults do where the room is too short. */
+static void spoil_8(struct outcome *outcome, struct sheet *sheet)
 {
-    return READ_FAULT == ROOM_UNASKED
-        || room + (READ_FAULT == ROOM_OF_5) >= TRIAL_ANSWER_WORDS + (READ_FAULT == ROOM_OF_7);
+    if (READ_FAULT == UNREAD_BEFORE_8)
+        outcome->touched = 0;
+    if (READ_FAULT == CLEARED_BEFORE_8)
+        memset(sheet->words, 0, sizeof sheet->words);
 }
 
-/* Reads a sheet into the words of a store. */
-int64_t trial_read(const uint8_t *bytes, size_t bytes_length, uint64_t *words, size_t length, uint64_t *out, size_t room)
+/* Checks a sheet in the words of a store. */
+int64_t saltreeve_check_in(const uint8_t *bytes, size_t bytes_length, uint64_t *words, size_t length,
+                           uint8_t *room, size_t room_length)
 {
     static struct sheet sheet;
+    static struct text text;
     struct outcome outcome;
-    size_t fitting = READ_FAULT == ROOM_UNASKED && room < TRIAL_ANSWER_WORDS ? room : TRIAL_ANSWER_WORDS;
-    if (!has_room(room) && READ_FAULT != READS_WITHOUT_ROOM)
-        return NO_ROOM;
     read_all(&outcome, &sheet, bytes, bytes_length, length);
+    print_sheet(&text, &sheet, outcome.line, outcome.refused);
+    if (outcome.refused > 1)
+        spoil_refused(&outcome, &sheet);
+    if (outcome.refused == 0)
+        spoil_accepted(&outcome, &sheet);
+    if (READ_FAULT == LENGTH_AS_RESULT && outcome.refused == 1)
+        return REFUSED_SIZE;
+    int64_t result = put_text(&text, room, room_length);
+    if (result < 0)
+        spoil_8(&outcome, &sheet);
     if (outcome.touched)
         write_store(words, length, &sheet);
-    if (!has_room(room))
-        return NO_ROOM;
-    memcpy(out, outcome.answer, fitting * sizeof *out);
-    if (READ_FAULT == CLEARS_THE_ROOM)
-        memset(out + fitting, 0, (room - fitting) * sizeof *out);
     if (READ_FAULT == CHANGES_THE_SHEET && bytes_length > 0)
         *(uint8_t *)bytes ^= 1;
-    return 0;
+    return result;
 }

@@ -1,9 +1,9 @@
-"""Tests what reading a sheet gives and leaves in the lent store, against the oracle.
+"""Tests the check of a sheet in a lent store, its text and what it leaves in the store, against the oracle.
 
     python3 tests/read_test.py DRIVER [--seed N|random] [--sheets N]
     python3 tests/read_test.py --selftest
 
-DRIVER is tests/read_driver.c linked with the test library. The self-test needs a C
+DRIVER is tests/read_driver.c linked with the library. The self-test needs a C
 compiler and no library: it tries the test itself on a stand-in, sound and faulty.
 """
 
@@ -25,7 +25,6 @@ DEFAULT_SHEETS = 800
 SELFTEST_SHEETS = 60
 ROUNDS = 1
 
-ANSWER_WORDS = 6
 WRONG_LENGTHS = (oracle.WORDS - 1, oracle.WORDS + 1, 0)
 AS_LEFT = 0  # in place of the garbage's number: the store is as the call before left it
 
@@ -34,26 +33,22 @@ Call = namedtuple("Call", "case outcome garbage length room")
 
 # Commands about a sheet that the sound stand-in passes, and some that are wrong about it, each in its own way.
 HEADER = "sheet 7 115 104 101 101 116 9 49 "
-ACCEPTED = "answer 6 1 0 1 "
+TOTAL_0 = "text 8 116 111 116 97 108 9 48 10 "
+REFUSED_1_11 = "text 13 114 101 102 117 115 101 100 9 49 9 49 49 10 "
 ZERO = "after 4528 0 "
-RIGHT = HEADER + ACCEPTED + ZERO + "call 1 4528 6 call 0 4528 7"
+RIGHT = HEADER + TOTAL_0 + ZERO + "call 1 4528 8 call 0 4528 7"
 SPOILED = (
-    HEADER + "answer 6 2 0 1 5 1 " + ZERO + "call 1 4528 6",     # another total
-    HEADER + ACCEPTED + "after 4528 1 4527 1 call 1 4528 6",     # another store
-    HEADER + ACCEPTED + "untouched call 1 4528 6",               # a store that is as it was
-    HEADER + ACCEPTED + ZERO + "call 1 4529 6",                  # a refusal for the store's length left out
-    "sheet 0 " + ACCEPTED + ZERO + "call 1 4528 6",              # a refusal left out
-    "sheet 0 answer 6 2 1 1 2 12 " + ZERO + "call 1 4528 6",     # another number of refusal
-    "sheet 0 answer 6 2 1 2 2 11 " + ZERO + "call 1 4528 6",     # another line
-    "sheet 0 answer 6 2 1 1 2 11 untouched call 1 4528 6",       # a refused sheet that leaves the store
+    HEADER + "text 8 116 111 116 97 108 9 49 10 " + ZERO + "call 1 4528 8",  # another total
+    HEADER + "text 7 116 111 116 97 108 9 48 " + ZERO + "call 1 4528 8",     # another length
+    HEADER + TOTAL_0 + "after 4528 1 4527 1 call 1 4528 8",                  # another store
+    HEADER + TOTAL_0 + "untouched call 1 4528 8",                            # a store that is as it was
+    HEADER + TOTAL_0 + "untouched call 1 4528 7",                            # the same where the room is too short
+    HEADER + TOTAL_0 + ZERO + "call 1 4529 8",                               # a refusal for the store's length left out
+    "sheet 0 " + TOTAL_0 + ZERO + "call 1 4528 8",                           # a refusal left out
+    "sheet 0 " + REFUSED_1_11.replace("49 49 10", "49 50 10") + ZERO + "call 1 4528 13",  # another number of refusal
+    "sheet 0 " + REFUSED_1_11.replace("9 49 9", "9 50 9") + ZERO + "call 1 4528 13",      # another line
+    "sheet 0 " + REFUSED_1_11 + "untouched call 1 4528 13",                  # a refused sheet that leaves the store
 )
-
-
-# The six words that reading gives, as tests/read_trial.h has them.
-def answer_of(outcome):
-    if outcome.number is None:
-        return 1, *outcome.counts, outcome.rules, len(outcome.findings)
-    return 0, outcome.line, outcome.number, 0, 0, 0
 
 
 # What the store of a sheet is afterwards, in a word.
@@ -72,34 +67,35 @@ class Commands:
         self.calls = []
         self.stores = Counter()
 
-    # Says what is due.
+    # Says what is due, and gives the length of the text.
     def due(self, outcome):
+        text = outcome.text.encode("latin-1")
         after = "untouched" if outcome.words is None else f"after {listed(outcome.words)}"
-        self.write(f"answer {listed(answer_of(outcome))}\n{after}\n")
+        self.write(f"text {host_test.listed(text)}\n{after}\n")
+        return len(text)
 
     # Makes a call.
     def call(self, case, outcome, garbage, length, room):
         self.write(f"call {garbage} {length} {room}\n")
         self.calls.append(Call(case, outcome, garbage, length, room))
 
-    # Reads a sheet into stores of wrong lengths.
+    # Checks a sheet in stores of wrong lengths, with rooms that are too short, just enough or longer.
     def read_wrong(self, number, case):
         for length in WRONG_LENGTHS:
             outcome = oracle_sheets.judge(case.sheet, length)
-            self.due(outcome)
-            self.call(case, outcome, 2 * number + 1, length, ANSWER_WORDS)
+            self.call(case, outcome, 2 * number + 1, length, self.due(outcome) + number % 4 - 1)
 
-    # Reads a sheet: into the store that the sheet before left, into stores of wrong lengths, into garbage without room
-    # for the answer, and into other garbage.
+    # Checks a sheet: in the store that the sheet before left, in stores of wrong lengths, in garbage with too short a room,
+    # and in other garbage.
     def read(self, number, case, outcome):
         self.write(f"part {case.name.split('-')[0]} {number}\nsheet {host_test.listed(case.sheet)}\n")
-        self.due(outcome)
+        enough = self.due(outcome)
         if number > 0:
-            self.call(case, outcome, AS_LEFT, oracle.WORDS, ANSWER_WORDS)
+            self.call(case, outcome, AS_LEFT, oracle.WORDS, enough)
         self.read_wrong(number, case)
         self.due(outcome)
-        self.call(case, outcome, 2 * number + 1, oracle.WORDS, number % ANSWER_WORDS)
-        self.call(case, outcome, 2 * number + 2, oracle.WORDS, ANSWER_WORDS + number % 3)
+        self.call(case, outcome, 2 * number + 1, oracle.WORDS, (enough - 1) * (number % 3) // 2)
+        self.call(case, outcome, 2 * number + 2, oracle.WORDS, enough + number % 3)
         self.stores[kept_as(outcome)] += 1
 
 
@@ -116,7 +112,7 @@ def call_lines(call):
     before = "as the call before left it" if call.garbage == AS_LEFT else f"garbage {call.garbage}"
     return [f"the case is {call.case.name}, the sheet:", sheet_test.shown(call.case.sheet),
             f"the store: {call.length} words, {before}; due afterwards: {kept_as(call.outcome)}",
-            f"the answer due: {answer_of(call.outcome)}, in a room of {call.room} words"]
+            f"the text due, in a room of {call.room} bytes:", call.outcome.text]
 
 
 # Prints where the driver stopped, what it said, and the call.
@@ -139,7 +135,8 @@ def selftest(seed):
     harness.BUILD.mkdir(parents=True, exist_ok=True)
     for name, result in (("read_driver.c", "driver"), ("reference_store.c", "store"), ("rule_reference.c", "rules")):
         harness.compile_file(name, f"read_selftest_{result}.o")
-    options = harness.planted("sheet_reference.h", "SHEET_FAULT") + harness.planted("read_reference.c", "READ_FAULT")
+    options = [option for name, macro in (("sheet_reference.h", "SHEET_FAULT"), ("text_reference.h", "TEXT_FAULT"),
+                                          ("read_reference.c", "READ_FAULT")) for option in harness.planted(name, macro)]
     return harness.selftest("reading", seed, harness.short_test(sys.modules[__name__], seed, SELFTEST_SHEETS), build,
                             options, RIGHT, SPOILED)
 
@@ -157,6 +154,6 @@ def report_agreement(commands, seed):
 
 
 if __name__ == "__main__":
-    chosen = harness.arguments("Tests reading sheets into a lent store.", "sheets", DEFAULT_SHEETS)
+    chosen = harness.arguments("Tests the check of sheets in a lent store.", "sheets", DEFAULT_SHEETS)
     sys.exit(harness.main(chosen, selftest, run, lambda commands: len(commands.calls), report_agreement,
                           report_difference))

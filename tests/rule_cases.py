@@ -42,6 +42,7 @@ class Commands:
         self.rules = 0
         self.findings = 0
         self.results = Counter()
+        self.other_lengths = 0
 
     # Begins a part of the test and gives its random numbers.
     def part(self, seed, name, number):
@@ -59,7 +60,7 @@ class Commands:
 
     # Asks for what breaks a rule, once for each length of out list that `rooms` gives.
     def ask_with(self, counts, rule_words, rooms):
-        result, found = oracle_rules.trial(self.words, counts, rule_words)
+        result, found = oracle_rules.answer(self.words, counts, rule_words)
         lengths = rooms(len(found))
         pairs = "".join(f" {first} {second}" for first, second in found)
         tried = " ".join(str(length) for length in (len(lengths), *lengths))
@@ -69,6 +70,7 @@ class Commands:
         self.rules += 1
         self.findings += len(found)
         self.results[min(result, 0)] += 1
+        self.other_lengths += len(rule_words) != RULE_WORDS
         return result
 
 
@@ -144,7 +146,8 @@ def damaged(rng, words, counts):
 
 
 class Draft:
-    """A rule with numbered nodes. The head and each node are lists: the kind, then the words of the fields."""
+    """A rule with numbered nodes. The head and each node are lists: the kind, or a number that is no kind's, then the
+    words of the fields."""
 
     # The rule says as many nodes as there are, unless `count` is set later.
     def __init__(self, head, nodes):
@@ -191,22 +194,20 @@ class Draft:
 # What the words of a part are for, its kind first.
 def word_names(table, kind):
     names = ["kind"]
-    for what in table[kind]:
+    for what in table.get(kind, ()):
         names += ["role", "inverse"] if what == "role" else [what]
     return names
 
 
 # So many words for a part, those that it has no use for taken from `spare`.
 def part_words(rng, spare, table, part, length):
-    words = [kind_number(rng, table, part[0]), *part[1:]]
+    words = [list(table).index(part[0]) if part[0] in table else part[0], *part[1:]]
     return words + rng.choices(spare, k=length - len(words))
 
 
-# The number for a kind; for those two that stand for any other number, also such a one.
-def kind_number(rng, table, kind):
-    if kind in ("top", "differ") and rng.random() < 0.3:
-        return rng.choice((len(table), len(table) + 1, 255, 256, 2**32, 2**32 + 2, 2**63, 2**64 - 1))
-    return list(table).index(kind)
+# Numbers that are no kind's.
+def unknown_kinds(table):
+    return (len(table), len(table) + 1, 255, 256, 2**32, 2**32 + 2, 2**63, 2**64 - 1)
 
 
 # A draft of a rule: each node gets a number after the node that uses it, otherwise in any order.
@@ -454,7 +455,7 @@ def examples(commands, seed):
         words = tuple(oracle.words_of(filled(counts, statements)))
         commands.load(words)
         rule_words = lay_out(rng, rule).words(rng)
-        require(oracle_rules.trial(words, counts, rule_words) == (len(due), due), f"the oracle fails example {number}")
+        require(oracle_rules.answer(words, counts, rule_words) == (len(due), due), f"the oracle fails example {number}")
         commands.ask_with(counts, rule_words, all_rooms)
 
 
@@ -467,6 +468,18 @@ def draft_with(drawer, wanted):
         draft = drawer.draft_with_expressions()
         if wanted(draft):
             return draft
+
+
+# Rules without expressions of an unknown kind, and rules with a node of an unknown kind in the place of one that uses none.
+def with_unknown_kind(drawer):
+    for number in unknown_kinds(RULE_FIELDS):
+        draft = drawer.draft(drawer.rng.choice([kind for kind in RULE_FIELDS if "node" not in RULE_FIELDS[kind]]), 0)
+        draft.head[0] = number
+        yield draft
+    for number in unknown_kinds(NODE_FIELDS):
+        draft = drawer.draft_with_expressions()
+        drawer.rng.choice([node for node in draft.nodes if "node" not in NODE_FIELDS[node[0]]])[0] = number
+        yield draft
 
 
 # Rules that have 32 nodes, all in order, and say that they have more.
@@ -564,6 +577,7 @@ def with_circle(drawer):
 
 # Each way of being malformed, and what makes rules that are malformed in that way only.
 MALFORMED = (
+    (oracle_rules.unknown_kind, with_unknown_kind),
     (oracle_rules.too_many_nodes, saying_too_many),
     (oracle_rules.count_outside, with_wrong_count),
     (oracle_rules.chain_outside, with_wrong_length),
@@ -594,6 +608,16 @@ def malformed_rules(commands, seed, rounds):
                 spoil_numbers(rng, draft)
                 refused_as_malformed(commands, rng, counts, draft.words(rng))
         without_expressions(commands, rng, counts)
+
+
+# Rules that are in order but for their length: 3.
+def other_lengths(commands, seed, rounds):
+    choices = (Counts(2, 1, 1), Counts(4, 3, 2), Counts(6, 4, 3))
+    for rng, counts in drawn_rounds(commands, seed, "other-length", rounds, choices):
+        for kind in RULE_FIELDS:
+            words = RuleDrawer(rng, counts).draft(kind, 3).words(rng)
+            for length in WRONG_RULE_LENGTHS:
+                refused_as_malformed(commands, rng, counts, (words * 2)[:length])
 
 
 # A rule that is malformed: 3.
@@ -638,7 +662,7 @@ def undeclared_at(commands, rng, counts, draft, place, count):
 
 # Nodes that no rule may have, to be put after those that a rule says it has.
 BAD_NODES = [["name", 2**64 - 1], ["at least", 9, 16, 1, 0], ["not", 0], ["one", 128], ["self", 99, 0],
-             ["and", 0, 0], ["at least", 0, 2**63, 0, 33], ["name", 32], ["not", 40]]
+             ["and", 0, 0], ["at least", 0, 2**63, 0, 33], ["name", 32], ["not", 40], [7, 0], [2**64 - 1]]
 
 
 # What lies past a chain's path and past the last node is not asked for.
@@ -677,13 +701,13 @@ def bad_words(rng, drawer, malformed, undeclared):
     return draft.words(rng)
 
 
-# Every set of things that can be wrong, with the refusal that comes first.
+# Every set of things that can be wrong, with the lowest number that applies.
 def orders(commands, seed, rounds):
     for number in range(rounds):
         rng = commands.part(seed, "order", number)
         for choice in range(32):
             wrong = [choice >> place & 1 == 1 for place in range(5)]
-            due = next((refusal for refusal, is_wrong in zip((-99, -1, -2, -3, -4), wrong) if is_wrong), 0)
+            due = max((refusal for refusal, is_wrong in zip((-3, -1, -2, -3, -4), wrong) if is_wrong), default=0)
             result = all_wrong(commands, rng, *wrong)
             require(min(result, 0) == due, "the oracle gives another refusal first")
 
@@ -729,6 +753,7 @@ def write_all(commands, seed, rules, rounds):
     examples(commands, seed)
     out_lists(commands, seed, rounds)
     malformed_rules(commands, seed, rounds)
+    other_lengths(commands, seed, rounds)
     undeclared_numbers(commands, seed)
     numbers_not_asked(commands, seed, rounds)
     orders(commands, seed, rounds)

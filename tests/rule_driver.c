@@ -1,8 +1,9 @@
 /*
- * Calls the test library's rules by number, and compares.
+ * Calls the library's rules by number, and compares.
  *
  *   rule_driver          reads commands from standard input (see tests/rule_test.py)
  *   rule_driver --time   prints the time of a call for the worst rules and stores
+ *   rule_driver --stack  prints how much stack those rules take
  *
  * The commands are words and decimal numbers parted by blanks. A list of words
  * is written as its length, then how many words are not 0, then an index and a
@@ -21,13 +22,10 @@
  * is printed and ends the program with 1. A call that fails, or does not come back
  * within some seconds, ends it by a signal; which call it was is printed.
  */
-#define _POSIX_C_SOURCE 199309L
+#define _XOPEN_SOURCE 600
 
-#include "calls.h"
-#include "rule_trial.h"
+#include "measure.h"
 #include "saltreeve.h"
-
-#include <time.h>
 
 /* What is lent, what is due, and where the test is. */
 struct run {
@@ -64,8 +62,8 @@ static void call_once(struct run *run)
 {
     next_call(&run->place, run->out.length);
     alarm(CALL_SECONDS);
-    int64_t got = trial_findings(run->store.entries, run->store.length, run->items, run->concepts, run->roles,
-                                 run->rule.entries, run->rule.length, run->out.entries, run->out.length);
+    int64_t got = saltreeve_findings(run->store.entries, run->store.length, run->items, run->concepts, run->roles,
+                                     run->rule.entries, run->rule.length, run->out.entries, run->out.length);
     alarm(0);
     compare_call(run, got);
 }
@@ -115,7 +113,7 @@ static void run_commands(void)
     say_done(&run.place);
 }
 
-/* --- Timing: always 128 items, 32 concepts and 16 roles. --- */
+/* --- Measuring: always 128 items, 32 concepts and 16 roles. --- */
 
 enum {
     TIMED_CALLS = 100,               /* of each rule, if they are quick */
@@ -126,12 +124,8 @@ enum {
 
 static const double TIMED_SECONDS = 0.2;  /* after which a rule is called no more */
 
-/* The kinds of rules and of nodes that are timed. */
-enum { SUB = 0, RSUB = 1, CHAIN = 2, IRR = 4, DIS = 5, IN = 6 };
-enum { NAME = 0, TOP = 1, AND = 3, AT_LEAST = 4 };
-
 typedef uint64_t timed_store[SALTREEVE_WORDS];
-typedef uint64_t timed_rule[TRIAL_RULE_WORDS];
+typedef uint64_t timed_rule[SALTREEVE_RULE_WORDS];
 
 /* Makes each item the same as itself, or all items the same. */
 static void fill_same(timed_store w, int merged)
@@ -174,117 +168,117 @@ static void head(timed_rule rule, uint64_t kind, uint64_t a, uint64_t b, uint64_
 static void node(timed_rule rule, uint64_t kind, uint64_t a, uint64_t b, uint64_t c, uint64_t d)
 {
     uint64_t words[] = {kind, a, b, c, d};
-    memcpy(rule + 13 + 5 * rule[12], words, sizeof words);
-    rule[12]++;
+    uint64_t number = rule[SALTREEVE_NODE_COUNT]++;
+    memcpy(rule + SALTREEVE_FIRST_NODE + SALTREEVE_NODE_WORDS * number, words, sizeof words);
 }
 
 /* Adds so many at leasts, each around the next and every second one over an inverse; the next node is the last. */
 static void nest(timed_rule rule, uint64_t depth, uint64_t count)
 {
     for (uint64_t level = 0; level < depth; level++)
-        node(rule, AT_LEAST, count, level % APART, level % 2, rule[12] + 1);
+        node(rule, SALTREEVE_NODE_AT_LEAST, count, level % APART, level % 2, rule[SALTREEVE_NODE_COUNT] + 1);
 }
 
 /* in: 31 nested some of a last node. */
 static void in_nest(timed_rule rule, uint64_t last_kind)
 {
-    head(rule, IN, 0, SALTREEVE_ITEMS - 1, 0, 0);
-    nest(rule, TRIAL_NODES - 1, 1);
+    head(rule, SALTREEVE_IN, 0, SALTREEVE_ITEMS - 1, 0, 0);
+    nest(rule, SALTREEVE_NODES - 1, 1);
     node(rule, last_kind, EMPTY, 0, 0, 0);
 }
 
 /* sub: 30 nested at leasts of a last node on the left, the empty concept on the right. */
 static void sub_nest(timed_rule rule, uint64_t count, uint64_t last_kind)
 {
-    head(rule, SUB, 0, TRIAL_NODES - 1, 0, 0);
-    nest(rule, TRIAL_NODES - 2, count);
+    head(rule, SALTREEVE_SUB, 0, SALTREEVE_NODES - 1, 0, 0);
+    nest(rule, SALTREEVE_NODES - 2, count);
     node(rule, last_kind, EMPTY, 0, 0, 0);
-    node(rule, NAME, EMPTY, 0, 0, 0);
+    node(rule, SALTREEVE_NODE_NAME, EMPTY, 0, 0, 0);
 }
 
 /* in: 31 nested some of top. */
 static void in_some_top(timed_rule rule)
 {
-    in_nest(rule, TOP);
+    in_nest(rule, SALTREEVE_NODE_TOP);
 }
 
 /* in: 31 nested some of the empty concept. */
 static void in_some_empty(timed_rule rule)
 {
-    in_nest(rule, NAME);
+    in_nest(rule, SALTREEVE_NODE_NAME);
 }
 
 /* sub: 30 nested some of top. */
 static void sub_some_top(timed_rule rule)
 {
-    sub_nest(rule, 1, TOP);
+    sub_nest(rule, 1, SALTREEVE_NODE_TOP);
 }
 
 /* sub: 30 nested some of the empty concept. */
 static void sub_some_empty(timed_rule rule)
 {
-    sub_nest(rule, 1, NAME);
+    sub_nest(rule, 1, SALTREEVE_NODE_NAME);
 }
 
 /* sub: 30 nested at least 8 of top. */
 static void sub_eight_top(timed_rule rule)
 {
-    sub_nest(rule, 8, TOP);
+    sub_nest(rule, 8, SALTREEVE_NODE_TOP);
 }
 
 /* sub: 30 nested at least 8 of the empty concept. */
 static void sub_eight_empty(timed_rule rule)
 {
-    sub_nest(rule, 8, NAME);
+    sub_nest(rule, 8, SALTREEVE_NODE_NAME);
 }
 
 /* sub: a tree of 15 ands over 16 concepts, as wide as it can be. */
 static void sub_wide_and(timed_rule rule)
 {
-    head(rule, SUB, 0, TRIAL_NODES - 1, 0, 0);
+    head(rule, SALTREEVE_SUB, 0, SALTREEVE_NODES - 1, 0, 0);
     for (uint64_t n = 0; n < 15; n++)
-        node(rule, AND, 2 * n + 1, 2 * n + 2, 0, 0);
+        node(rule, SALTREEVE_NODE_AND, 2 * n + 1, 2 * n + 2, 0, 0);
     for (uint64_t A = 0; A < 16; A++)
-        node(rule, NAME, A, 0, 0, 0);
-    node(rule, NAME, EMPTY, 0, 0, 0);
+        node(rule, SALTREEVE_NODE_NAME, A, 0, 0, 0);
+    node(rule, SALTREEVE_NODE_NAME, EMPTY, 0, 0, 0);
 }
 
 /* sub: a tree of 15 ands over 16 concepts, as deep as it can be. */
 static void sub_deep_and(timed_rule rule)
 {
-    head(rule, SUB, 0, TRIAL_NODES - 1, 0, 0);
+    head(rule, SALTREEVE_SUB, 0, SALTREEVE_NODES - 1, 0, 0);
     for (uint64_t n = 0; n < 30; n += 2) {
-        node(rule, AND, n + 1, n + 2, 0, 0);
-        node(rule, NAME, n / 2, 0, 0, 0);
+        node(rule, SALTREEVE_NODE_AND, n + 1, n + 2, 0, 0);
+        node(rule, SALTREEVE_NODE_NAME, n / 2, 0, 0, 0);
     }
-    node(rule, NAME, 15, 0, 0, 0);
-    node(rule, NAME, EMPTY, 0, 0, 0);
+    node(rule, SALTREEVE_NODE_NAME, 15, 0, 0, 0);
+    node(rule, SALTREEVE_NODE_NAME, EMPTY, 0, 0, 0);
 }
 
 /* chain: four roles, of which two are inverses, and the last role. */
 static void chain_of_four(timed_rule rule)
 {
     static const uint64_t FIELDS[] = {4, 0, 0, 1, 1, 2, 0, 3, 1, APART, 0};
-    head(rule, CHAIN, 0, 0, 0, 0);
+    head(rule, SALTREEVE_CHAIN, 0, 0, 0, 0);
     memcpy(rule + 1, FIELDS, sizeof FIELDS);
 }
 
 /* rsub: a role and the one that may link nothing. */
 static void rsub_pair(timed_rule rule)
 {
-    head(rule, RSUB, 0, 1, APART, 0);
+    head(rule, SALTREEVE_RSUB, 0, 1, APART, 0);
 }
 
 /* dis: two roles. */
 static void dis_pair(timed_rule rule)
 {
-    head(rule, DIS, 0, 0, 1, 1);
+    head(rule, SALTREEVE_DIS, 0, 0, 1, 1);
 }
 
 /* irr: one role. */
 static void irr_one(timed_rule rule)
 {
-    head(rule, IRR, 0, 0, 0, 0);
+    head(rule, SALTREEVE_IRR, 0, 0, 0, 0);
 }
 
 /* What is timed: the rule, the roles that link, the words of the out list, and the findings due. */
@@ -314,66 +308,77 @@ static const struct timing TIMINGS[] = {
     {"rsub, all pairs found and listed", rsub_pair, 15, 2 * PAIRS, PAIRS, PAIRS},
 };
 
-/* Seconds since some fixed moment. */
-static double seconds(void)
-{
-    struct timespec now;
-    clock_gettime(CLOCK_MONOTONIC, &now);
-    return (double)now.tv_sec + (double)now.tv_nsec / 1e9;
-}
+/* The store and the rule that are measured, the words of the out list, and the findings due. */
+static timed_store measured_store;
+static timed_rule measured_rule;
+static size_t measured_room;
+static int64_t measured_due;
 
 /* Makes one call; a result that is not due ends the program. */
-static void timed_call(const timed_store w, const timed_rule rule, size_t room, int64_t due)
+static void measured_call(void)
 {
     static uint64_t out[2 * PAIRS];
     alarm(CALL_SECONDS);
-    int64_t got = trial_findings(w, SALTREEVE_WORDS, SALTREEVE_ITEMS, SALTREEVE_CONCEPTS, SALTREEVE_ROLES,
-                                 rule, TRIAL_RULE_WORDS, out, room);
+    int64_t got = saltreeve_findings(measured_store, SALTREEVE_WORDS, SALTREEVE_ITEMS, SALTREEVE_CONCEPTS, SALTREEVE_ROLES,
+                                     measured_rule, SALTREEVE_RULE_WORDS, out, measured_room);
     alarm(0);
-    if (got != due) {
-        printf("expected %" PRId64 " findings, got %" PRId64 "\n", due, got);
+    if (got != measured_due) {
+        printf("expected %" PRId64 " findings, got %" PRId64 "\n", measured_due, got);
         exit(1);
     }
 }
 
-/* Times one rule on a store of all items the same or all different, and prints one line. */
-static void time_rule(const struct timing *timing, int merged)
+/* Prints the time of a call. */
+static void print_time(void)
 {
-    static timed_store w;
-    timed_rule rule;
     int calls = 0;
-    int64_t due = merged ? timing->due_merged : timing->due_different;
-    fill_same(w, merged);
-    fill_concepts(w);
-    fill_roles(w, timing->linking);
-    timing->build(rule);
-    printf("%-13s %-46s", merged ? "all the same" : "all different", timing->name);
-    fflush(stdout);
     double start = seconds(), spent = 0;
     for (; calls < TIMED_CALLS && spent < TIMED_SECONDS; calls++) {
-        timed_call(w, rule, timing->room, due);
+        measured_call();
         spent = seconds() - start;
     }
-    printf("%12.2f microseconds a call (%d calls, %" PRId64 " findings)\n", spent * 1e6 / calls, calls, due);
+    printf("%12.2f microseconds a call (%d calls, %" PRId64 " findings)\n", spent * 1e6 / calls, calls, measured_due);
 }
 
-/* Prints the times of all rules on both kinds of store. */
-static void run_times(void)
+/* Prints the stack of a call. */
+static void print_stack(void)
+{
+    printf("%8zu bytes of stack\n", stack_used(measured_call));
+}
+
+/* Measures one rule on a store of all items the same or all different, and prints one line. */
+static void measure_rule(const struct timing *timing, int merged, void (*print)(void))
+{
+    fill_same(measured_store, merged);
+    fill_concepts(measured_store);
+    fill_roles(measured_store, timing->linking);
+    timing->build(measured_rule);
+    measured_room = timing->room;
+    measured_due = merged ? timing->due_merged : timing->due_different;
+    printf("%-13s %-46s", merged ? "all the same" : "all different", timing->name);
+    fflush(stdout);
+    print();
+}
+
+/* Measures all rules on both kinds of store. */
+static void measure_all(void (*print)(void))
 {
     for (int merged = 1; merged >= 0; merged--)
         for (size_t i = 0; i < sizeof TIMINGS / sizeof TIMINGS[0]; i++)
-            time_rule(&TIMINGS[i], merged);
+            measure_rule(&TIMINGS[i], merged, print);
 }
 
-/* Runs the commands or the timing. */
+/* Runs the commands or a measurement. */
 int main(int argc, char **argv)
 {
     if (argc == 2 && strcmp(argv[1], "--time") == 0)
-        run_times();
+        measure_all(print_time);
+    else if (argc == 2 && strcmp(argv[1], "--stack") == 0)
+        measure_all(print_stack);
     else if (argc == 1)
         run_commands();
     else {
-        fprintf(stderr, "usage: rule_driver [--time]\n");
+        fprintf(stderr, "usage: rule_driver [--time | --stack]\n");
         return 2;
     }
     return 0;

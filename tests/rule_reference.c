@@ -1,7 +1,7 @@
 /*
  * A plain stand-in for rules by number, to try the tests on.
  *
- * It has the same face as the test library and looks at item after item. The
+ * It has the same face as the library and looks at item after item. The
  * store is judged by the other stand-in, tests/reference_store.c, which it is
  * linked with. It is slow and proves nothing. The self-test also builds it with
  * one fault planted, -DRULE_FAULT=ALWAYS_0 or another of those listed below or in
@@ -49,6 +49,9 @@ enum fault {
     RULE_BEFORE_SIZE,         /* 3 is given where 1 is due */
     STORE_UNASKED,            /* a store that is not closed is taken */
     LONG_RULE_TAKEN,          /* a rule of more than 173 words is taken */
+    SHORT_RULE_TAKEN,         /* a rule of less than 173 words is read as if zeros followed */
+    LENGTH_BEFORE_STORE,      /* 3 is given for a rule's length where 1 or 2 is due */
+    LENGTH_AS_SIZE,           /* a rule of another length is refused by 1 */
     STOPS_THE_PROGRAM,        /* the first chain stops the program */
     ENDS_THE_PROGRAM          /* the first chain ends the program as if all were well */
 };
@@ -57,7 +60,7 @@ enum fault {
 #define RULE_FAULT NO_FAULT
 #endif
 
-enum { REFUSED_SIZE = -1, REFUSED_NOT_CLOSED = -2, REFUSED_MALFORMED = -3, REFUSED_NUMBER = -4, WRONG_LENGTH = -99 };
+enum { REFUSED_SIZE = -1, REFUSED_NOT_CLOSED = -2, REFUSED_MALFORMED = -3, REFUSED_NUMBER = -4 };
 enum { ITEMS = SALTREEVE_ITEMS };
 
 /* Where findings go: the caller's list, and how many there were. */
@@ -68,7 +71,7 @@ struct list {
 };
 
 /* What the nodes hold of. */
-typedef int table[TRIAL_NODES][ITEMS];
+typedef int table[SALTREEVE_NODES][ITEMS];
 
 /* --- What holds --- */
 
@@ -141,7 +144,7 @@ static void fill_table(const struct call *c, table holds)
 static void found(struct list *list, uint64_t first, uint64_t second)
 {
     size_t at = 2 * (size_t)list->total++;
-    if (RULE_FAULT == NONE_IS_0 && second == TRIAL_NO_ITEM)
+    if (RULE_FAULT == NONE_IS_0 && second == SALTREEVE_NO_ITEM)
         second = 0;
     if (at + 1 < list->length || (RULE_FAULT == WRITES_HALF_A_RECORD && at < list->length))
         list->out[at] = first;
@@ -229,7 +232,7 @@ static void find_items(const struct call *c, table holds, struct list *list)
 {
     for (uint64_t x = 0; x < c->items; x++)
         if (item_breaks(c, holds, x) && !(RULE_FAULT == LOWEST_NAMES_ONLY && is_other_name(c, x)))
-            found(list, x, TRIAL_NO_ITEM);
+            found(list, x, SALTREEVE_NO_ITEM);
 }
 
 /* Finds the pair of items that a rule about a role names. */
@@ -254,7 +257,7 @@ static void find(const struct call *c, table holds, struct list *list)
         break;
     case IN:
         if (!holds[r[1]][r[2] % ITEMS])
-            found(list, r[2], TRIAL_NO_ITEM);
+            found(list, r[2], SALTREEVE_NO_ITEM);
         break;
     case REL: case NOREL:
         find_linked_pair(c, list);
@@ -276,16 +279,18 @@ static int64_t store_refusal(const struct call *c, size_t length)
     return refusal;
 }
 
-/* The refusal that applies, or 0. */
-static int64_t refusal(const struct call *c, size_t length, size_t rule_length)
+/* The refusal that applies, or 0; `whole` says whether the rule has its length. */
+static int64_t refusal(const struct call *c, size_t length, int whole)
 {
-    if (rule_length != TRIAL_RULE_WORDS && !(RULE_FAULT == LONG_RULE_TAKEN && rule_length > TRIAL_RULE_WORDS))
-        return WRONG_LENGTH;
+    if (!whole && RULE_FAULT == LENGTH_BEFORE_STORE)
+        return REFUSED_MALFORMED;
     int64_t refused = store_refusal(c, length);
     int early = (RULE_FAULT == SHAPE_BEFORE_CLOSED && refused == REFUSED_NOT_CLOSED)
         || (RULE_FAULT == RULE_BEFORE_SIZE && refused == REFUSED_SIZE);
-    if (refused != 0 && !(early && malformed(c->rule)))
+    if (refused != 0 && !(early && whole && malformed(c->rule)))
         return refused;
+    if (!whole)
+        return RULE_FAULT == LENGTH_AS_SIZE ? REFUSED_SIZE : REFUSED_MALFORMED;
     if (RULE_FAULT == NUMBERS_BEFORE_SHAPE && !declared(c))
         return REFUSED_NUMBER;
     if (malformed(c->rule))
@@ -316,19 +321,22 @@ static void spoil(const struct call *c, const struct list *list)
     if (RULE_FAULT == CHANGES_THE_STORE)
         ((uint64_t *)c->w)[SALTREEVE_WORDS - 1] ^= 1;
     if (RULE_FAULT == CHANGES_THE_RULE)
-        ((uint64_t *)c->rule)[TRIAL_RULE_WORDS - 1] ^= 1;
+        ((uint64_t *)c->rule)[SALTREEVE_RULE_WORDS - 1] ^= 1;
 }
 
 /* Finds what breaks a rule. */
-int64_t trial_findings(const uint64_t *words, size_t length,
-                       uint64_t items, uint64_t concepts, uint64_t roles,
-                       const uint64_t *rule, size_t rule_length,
-                       uint64_t *out, size_t out_length)
+int64_t saltreeve_findings(const uint64_t *words, size_t length,
+                           uint64_t items, uint64_t concepts, uint64_t roles,
+                           const uint64_t *rule, size_t rule_length,
+                           uint64_t *out, size_t out_length)
 {
     static table holds;
-    struct call c = {words, items, concepts, roles, rule};
+    uint64_t padded[SALTREEVE_RULE_WORDS];
+    int taken = (RULE_FAULT == LONG_RULE_TAKEN && rule_length > SALTREEVE_RULE_WORDS)
+        || (RULE_FAULT == SHORT_RULE_TAKEN && rule_length < SALTREEVE_RULE_WORDS);
+    struct call c = {words, items, concepts, roles, taken ? padded_rule(rule, rule_length, padded) : rule};
     struct list list = {out, out_length, 0};
-    int64_t refused = refusal(&c, length, rule_length);
+    int64_t refused = refusal(&c, length, taken || rule_length == SALTREEVE_RULE_WORDS);
     if (refused != 0) {
         if (RULE_FAULT == REFUSAL_WRITES && out_length > 0)
             out[0] = 0;

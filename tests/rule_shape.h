@@ -7,11 +7,15 @@
 #ifndef RULE_SHAPE_H
 #define RULE_SHAPE_H
 
-#include "rule_trial.h"
+#include "saltreeve.h"
 
 enum shape_fault {
     NO_SHAPE_FAULT,
     KINDS_OF_32_BITS,         /* the high half of a kind is lost */
+    UNKNOWN_RULE_TAKEN,       /* an unknown kind of rule is read as differ */
+    UNKNOWN_NODE_TAKEN,       /* an unknown kind of node is read as top */
+    UNKNOWN_LAST_NODE_TAKEN,  /* the kind of the last node that counts is not asked */
+    UNUSED_KINDS_ASKED,       /* the kinds of nodes past their number are asked */
     NODES_33_TAKEN,           /* 33 nodes are taken */
     NODES_OF_32_BITS,         /* the high half of the number of nodes is lost */
     LIMIT_ONE_LESS,           /* 32 nodes are refused */
@@ -42,9 +46,16 @@ enum shape_fault {
 #define SHAPE_FAULT NO_SHAPE_FAULT
 #endif
 
-enum { NODES = TRIAL_NODES };
-enum { SUB, RSUB, CHAIN, REF, IRR, DIS, IN, REL, NOREL, SAME, DIFFER };
-enum { NAME, TOP, NOT, AND, AT_LEAST, SELF, ONE };
+enum { NODES = SALTREEVE_NODES };
+enum {
+    SUB = SALTREEVE_SUB, RSUB = SALTREEVE_RSUB, CHAIN = SALTREEVE_CHAIN, REF = SALTREEVE_REF, IRR = SALTREEVE_IRR,
+    DIS = SALTREEVE_DIS, IN = SALTREEVE_IN, REL = SALTREEVE_REL, NOREL = SALTREEVE_NOREL, SAME = SALTREEVE_SAME,
+    DIFFER = SALTREEVE_DIFFER
+};
+enum {
+    NAME = SALTREEVE_NODE_NAME, TOP = SALTREEVE_NODE_TOP, NOT = SALTREEVE_NODE_NOT, AND = SALTREEVE_NODE_AND,
+    AT_LEAST = SALTREEVE_NODE_AT_LEAST, SELF = SALTREEVE_NODE_SELF, ONE = SALTREEVE_NODE_ONE
+};
 
 /* A call: the store if there is one, the counts, and the rule. */
 struct call {
@@ -55,36 +66,36 @@ struct call {
 
 /* --- The words of a rule --- */
 
-/* A kind as it is read; numbers without a kind are read as `other`. */
-static uint64_t kind_of(uint64_t word, uint64_t most, uint64_t other)
+/* A kind as it is read. */
+static uint64_t kind_of(uint64_t word)
 {
-    if (SHAPE_FAULT == KINDS_OF_32_BITS)
-        word = (uint32_t)word;
-    return word <= most ? word : other;
+    return SHAPE_FAULT == KINDS_OF_32_BITS ? (uint32_t)word : word;
 }
 
 /* The kind of a rule. */
 static uint64_t rule_kind(const uint64_t *rule)
 {
-    return kind_of(rule[0], DIFFER, DIFFER);
+    uint64_t kind = kind_of(rule[0]);
+    return SHAPE_FAULT == UNKNOWN_RULE_TAKEN && kind > DIFFER ? DIFFER : kind;
 }
 
 /* The words of a node. */
 static const uint64_t *node_at(const uint64_t *rule, uint64_t n)
 {
-    return rule + 13 + 5 * n;
+    return rule + SALTREEVE_FIRST_NODE + SALTREEVE_NODE_WORDS * n;
 }
 
 /* The kind of a node. */
 static uint64_t node_kind(const uint64_t *node)
 {
-    return kind_of(node[0], ONE, TOP);
+    uint64_t kind = kind_of(node[0]);
+    return SHAPE_FAULT == UNKNOWN_NODE_TAKEN && kind > ONE ? TOP : kind;
 }
 
 /* The number of nodes as it is read. */
 static uint64_t node_count(const uint64_t *rule)
 {
-    uint64_t count = SHAPE_FAULT == NODES_OF_32_BITS ? (uint32_t)rule[12] : rule[12];
+    uint64_t word = rule[SALTREEVE_NODE_COUNT], count = SHAPE_FAULT == NODES_OF_32_BITS ? (uint32_t)word : word;
     return SHAPE_FAULT == NODES_33_TAKEN && count == NODES + 1 ? NODES : count;
 }
 
@@ -107,7 +118,25 @@ static uint64_t child(const uint64_t *node, int which)
     return node_kind(node) == AT_LEAST ? node[4] : node[1 + which];
 }
 
+/* The first 173 words of a rule, with zeros where it is shorter. */
+static const uint64_t *padded_rule(const uint64_t *rule, size_t length, uint64_t padded[SALTREEVE_RULE_WORDS])
+{
+    for (size_t i = 0; i < SALTREEVE_RULE_WORDS; i++)
+        padded[i] = i < length ? rule[i] : 0;
+    return padded;
+}
+
 /* --- Refusal 3 --- */
+
+/* Whether the kinds of the rule and of its nodes are known. */
+static int kinds_known(const uint64_t *rule)
+{
+    uint64_t asked = node_count(rule) - (SHAPE_FAULT == UNKNOWN_LAST_NODE_TAKEN && node_count(rule) > 0);
+    for (uint64_t n = 0; n < (SHAPE_FAULT == UNUSED_KINDS_ASKED ? NODES : asked); n++)
+        if (node_kind(node_at(rule, n)) > ONE)
+            return 0;
+    return rule_kind(rule) <= DIFFER;
+}
 
 /* Whether a use is of a node that is there. */
 static int there(const uint64_t *rule, uint64_t used)
@@ -200,7 +229,7 @@ static int malformed(const uint64_t *rule)
         return 1;
     if (rule_kind(rule) == CHAIN && !length_stands(rule[1]))
         return 1;
-    return !uses_there(rule) || !nodes_stand(rule);
+    return !kinds_known(rule) || !uses_there(rule) || !nodes_stand(rule);
 }
 
 /* --- Refusal 4 --- */

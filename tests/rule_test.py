@@ -3,7 +3,7 @@
     python3 tests/rule_test.py DRIVER [--seed N|random] [--rules N]
     python3 tests/rule_test.py --selftest
 
-DRIVER is tests/rule_driver.c linked with the test library. The self-test needs a C
+DRIVER is tests/rule_driver.c linked with the library. The self-test needs a C
 compiler and no library: it tries the test itself on a stand-in, sound and faulty.
 """
 
@@ -77,7 +77,7 @@ def finding_text(first, second):
 
 # The lines that show a call, and what was expected of it.
 def call_lines(call):
-    result, found = oracle_rules.trial(call.words, call.counts, call.rule_words)
+    result, found = oracle_rules.answer(call.words, call.counts, call.rule_words)
     pairs = "; ".join(finding_text(*finding) for finding in found[:CELLS_SHOWN])
     return [*rule_lines(call.rule_words), *store_lines(call.words, call.counts), f"expected: {result} ({pairs})"]
 
@@ -98,7 +98,7 @@ def report_agreement(commands, seed):
     results = commands.results
     print(f"rules: {commands.rules} rules, {len(commands.calls)} calls ({results[0]} rules accepted, "
           f"{commands.findings} findings; refused by 1: {results[-1]}, by 2: {results[-2]}, by 3: {results[-3]}, "
-          f"by 4: {results[-4]}, for their length: {results[-99]}), seed {seed}: all agree")
+          f"by 4: {results[-4]}; {commands.other_lengths} have another length), seed {seed}: all agree")
 
 
 if __name__ == "__main__":

@@ -10,7 +10,6 @@
 #ifndef SHEET_REFERENCE_H
 #define SHEET_REFERENCE_H
 
-#include "rule_trial.h"
 #include "saltreeve.h"
 
 #include <string.h>
@@ -58,7 +57,7 @@ struct table {
 /* A rule and the line that it stands on. */
 struct kept {
     uint64_t line;
-    uint64_t words[TRIAL_RULE_WORDS];
+    uint64_t words[SALTREEVE_RULE_WORDS];
 };
 
 /* A sheet as far as it has been read. */
@@ -360,7 +359,7 @@ static int use_refusal(struct sheet *sheet, const struct line *line)
     for (size_t at = 0; SHEET_FAULT == FIRST_FIELD_FIRST && at < line->count; at++)
         if (no_name(sheet, line, at) || undeclared(sheet, line, at))
             return no_name(sheet, line, at) ? 15 : 19;
-    if (SHEET_FAULT == STOPS_AT_NODE_32 && nodes(line) > TRIAL_NODES)
+    if (SHEET_FAULT == STOPS_AT_NODE_32 && nodes(line) > SALTREEVE_NODES)
         return 21;
     if (some_field(sheet, line, no_name))
         return 15;
@@ -370,7 +369,7 @@ static int use_refusal(struct sheet *sheet, const struct line *line)
         return 19;
     if (some_field(sheet, line, no_count))
         return 20;
-    return nodes(line) > TRIAL_NODES ? 21 : 0;
+    return nodes(line) > SALTREEVE_NODES ? 21 : 0;
 }
 
 /* The number that a line in its fields is refused by, or 0. */
@@ -654,8 +653,8 @@ static uint64_t read_sheet(struct sheet *sheet, const uint8_t *bytes, size_t len
 /* Finds what breaks a rule of the sheet: so many pairs in `out`, which has room for all. */
 static int64_t judge(const struct sheet *sheet, const struct kept *kept, uint64_t *out)
 {
-    return trial_findings(sheet->words, SALTREEVE_WORDS, sheet->items.count, sheet->concepts.count, sheet->roles.count,
-                          kept->words, TRIAL_RULE_WORDS, out, 2 * PAIRS);
+    return saltreeve_findings(sheet->words, SALTREEVE_WORDS, sheet->items.count, sheet->concepts.count, sheet->roles.count,
+                              kept->words, SALTREEVE_RULE_WORDS, out, 2 * PAIRS);
 }
 
 #endif

@@ -4,10 +4,10 @@ use mathlib.Core.Bool.{true, false}
 use mathlib.Core.List.{List, [], _++_}
 use Prim.Native.Nat.{ℕ, _≤_, _<_}
 use lib.ListN.{length, drop}
-use Rattle.closure.specs.Cell.{Cell}
-use Rattle.closure.specs.Cell.Cell.{In}
-use Rattle.closure.specs.Layout.{Holds, width}
-use Rattle.report.specs.Lines.{lineOf}
+use Rattle.store.specs.Cell.{Cell}
+use Rattle.store.specs.Cell.Cell.{In}
+use Rattle.store.specs.Layout.{Holds, width}
+use Rattle.report.specs.Promise.{lineOf}
 use Rattle.field.specs.Names.{countsOf}
 use Rattle.sheet.specs.Promise.{Held, refusedText}
 use Rattle.sheet.specs.Said.{Said, SheetStatement, outcome}

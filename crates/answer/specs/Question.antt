@@ -8,7 +8,7 @@ use lib.ListN.{length, getD, take}
 use Rattle.text.specs.Bytes.{bytes, same}
 use Rattle.text.specs.Split.{fields}
 use Rattle.text.specs.Text.{decimal}
-use Rattle.closure.specs.Cell.{Cell, cellOf}
+use Rattle.store.specs.Cell.{Cell, cellOf}
 use Rattle.field.specs.declared.Form.the-variants as form
 use Rattle.line.specs.declared.Marks.{Marks}
 use Rattle.field.specs.declared.StatementWord.{StatementWord}

@@ -7,16 +7,16 @@ ghost use Rattle.text.specs.Text.{decimal};
 ghost use Rattle.sheet.specs.own.Pass.{Judges};
 ghost use Rattle.field.specs.own.Table.{Roomy, namesOf};
 ghost use Rattle.field.specs.Words.{bodyOf, formOf};
-ghost use Rattle.why.specs.Asked.{Of};
+ghost use Rattle.why.specs.own.Asked.{Of};
 ghost use Rattle.answer.specs.Question.{aboutFinding, bare as bareOf};
-ghost use Rattle.answer.specs.Asked.{Asking, BreakingIf, FindingIf, FormAsked, SidesIf};
+ghost use Rattle.answer.specs.own.Asked.{Asking, BreakingIf, FindingIf, FormAsked, SidesIf};
 use crate::CellAsked;
 use crate::FindingAsked;
-use closure::Item;
-use closure::Statement;
 use field::Form;
 use field::Table;
 use line::Marks;
+use store::Item;
+use store::Statement;
 use why::Sides;
 
 // The question without a line feed at its end.

@@ -1,9 +1,9 @@
 // What is printed for a question about a sheet: the lines behind a cell or a finding.
-pub mod ask;
-pub mod print;
+mod ask;
+mod print;
 pub mod reply;
 
-use closure::Statement;
+use store::Statement;
 
 // How far the lines of a reason are printed: the place in the room, and how many lines there are so far.
 pub struct Printed {

@@ -8,17 +8,17 @@ ghost use Rattle.text.specs.Split.{fields};
 ghost use Rattle.text.specs.Text.{Wrote};
 ghost use Rattle.field.specs.Words.{formOf};
 ghost use Rattle.field.specs.own.Table.{namesOf};
-ghost use Rattle.row.specs.Row.{rowHasb};
-ghost use Rattle.reason.specs.Picked.{markWords};
+ghost use Rattle.row.specs.own.Row.{rowHasb};
+ghost use Rattle.reason.specs.own.Picked.{markWords};
 ghost use Rattle.answer.specs.Text.{numberedText};
-ghost use Rattle.answer.specs.Writing.{Accepted, LinesPut, PutIf, ReasonPut, absentIf, statementForm};
+ghost use Rattle.answer.specs.own.Writing.{Accepted, LinesPut, PutIf, ReasonPut, absentIf, statementForm};
 use crate::Absent;
 use crate::Printed;
-use closure::Item;
-use closure::Store;
 use field::Form;
 use field::Table;
 use reason::Lines;
+use store::Item;
+use store::Store;
 
 // Whether a line is that of a statement.
 fn is_statement(line: &[u8]) -> bool

@@ -1,20 +1,20 @@
 // The answer to a question about a sheet, as text.
 ghost use mathlib.Core.Path.{_≡_};
 ghost use mathlib.Core.Bool.{true};
-ghost use Rattle.closure.specs.Cell.{cellOf};
+ghost use Rattle.store.specs.Cell.{cellOf};
 ghost use Rattle.sheet.specs.Promise.{refusedText};
 ghost use Rattle.field.specs.own.Table.{namesOf};
-ghost use Rattle.why.specs.Asked.{Asked, Of};
+ghost use Rattle.why.specs.own.Asked.{Asked, Of};
 ghost use Rattle.answer.specs.Promise.{Fitted, Replies};
 ghost use Rattle.answer.specs.Question.{aboutFinding};
-ghost use Rattle.answer.specs.Writing.{Accepted, CellReply, FindingReply, Known, ReasonFits, ReasonSaid};
+ghost use Rattle.answer.specs.own.Writing.{Accepted, CellReply, FindingReply, Known, ReasonFits, ReasonSaid};
 use crate::Absent;
-use closure::Concept;
-use closure::Item;
-use closure::Statement;
-use closure::Store;
 use field::Table;
 use reason::Lines;
+use store::Concept;
+use store::Item;
+use store::Statement;
+use store::Store;
 
 // Writes the line of a refusal, if it has place in the room; gives its length.
 fn refuse(room: &mut [u8], line: usize, why: usize) -> usize
@@ -62,7 +62,7 @@ fn cell(sheet: &[u8], t: Table, words: &[u64], q: &[u8], room: &mut [u8]) -> usi
     }
     let s = c.cell;
     let counts = t.counts;
-    if !closure::look::told(words, closure::entry::layout(), counts, s) {
+    if !store::look::told(words, store::size::layout(), counts, s) {
         return refuse(room, 0, 24);
     }
     let a = Absent {

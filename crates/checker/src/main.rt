@@ -4,6 +4,7 @@ ghost use lib.ListN.{length};
 use libc::STDERR_FILENO;
 use libc::STDIN_FILENO;
 use libc::STDOUT_FILENO;
+use report::Report;
 
 // Whether the input has really ended, and not only failed.
 fn ended() -> bool {
@@ -15,7 +16,7 @@ fn ended() -> bool {
 fn print(sheet: &[u8], n: usize)
     requires { ⌜ n ≤ length (now sheet) ⌝ }
 {
-    let mut room = [0u8; 18700];
+    let mut room = [0u8; Report::BYTES];
     let k = report::page::page(&sheet[..n], &mut room);
     if !io::write_all(STDOUT_FILENO, &room[..k]) {
         io::write_all(STDERR_FILENO, b"checker: the text could not be written\n");

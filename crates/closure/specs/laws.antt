@@ -1,29 +1,18 @@
--- What is proved of the store's definitions.
-pub mod Least
-pub mod Reflexive
-pub mod Parts
-pub mod Cells
-pub mod Keeps
-pub mod LinkRows
-pub mod FreshLaws
-pub mod Included
+-- What is proved of making a fresh store and of adding to one.
 pub mod Refusals
 pub mod Demand3
-pub mod UnderLaws
-pub mod InLaws
-pub mod LinkLaws
 pub mod FormUnder
 pub mod FormIn
 pub mod FormLink
 pub mod FormSame
 pub mod FormRole
+pub mod Keeps
+pub mod Included
+pub mod FreshLaws
+pub mod UnderLaws
+pub mod InLaws
+pub mod LinkRows
+pub mod LinkLaws
 pub mod SameLaws
 pub mod RoleWord
 pub mod RoleLaws
-pub mod Halves
-pub mod Clean
-pub mod Pairs
-pub mod Asked
-pub mod Passed
-pub mod Closed
-pub mod Look

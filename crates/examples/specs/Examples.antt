@@ -2,19 +2,20 @@
 use mathlib.Core.Path.{_≡_}
 use mathlib.Core.Bool.{true, false}
 use mathlib.Core.List.{List, [], _∷_}
-use Prim.Native.Nat.{ℕ, _<_}
+use Prim.Native.Nat.{ℕ}
 use lib.ListN.{length}
 use Rattle.row.specs.Bit.{Words}
-use Rattle.closure.specs.declared.Counts.{Counts}
-use Rattle.closure.specs.declared.Concept.{Concept}
+use Rattle.store.specs.declared.Counts.{Counts}
+use Rattle.store.specs.declared.Concept.{Concept}
 use Rattle.closure.specs.declared.Answer.{Answer}
 use Rattle.closure.specs.declared.Answer.the-variants.{Cells}
-use Rattle.closure.specs.declared.Statement.{Statement}
-use Rattle.closure.specs.declared.Statement.the-variants as statement
-use Rattle.closure.specs.Cell.{Nothing}
-use Rattle.closure.specs.Cell.Cell.{Same, RoleUnder, Link}
-use Rattle.closure.specs.Layout.{ClosedStore, Holds, width}
-use Rattle.closure.specs.Promise.{Keeps, Adds}
+use Rattle.store.specs.declared.Statement.{Statement}
+use Rattle.store.specs.declared.Statement.the-variants as statement
+use Rattle.store.specs.Cell.{Nothing, DeclaredItem}
+use Rattle.store.specs.Cell.Cell.{Same, RoleUnder, Link}
+use Rattle.store.specs.Layout.{ClosedStore, Holds, width}
+use Rattle.store.specs.Keeps.{Keeps}
+use Rattle.closure.specs.Promise.{Adds}
 use Rattle.closure.specs.Lines.{Stated}
 use Rattle.rule.specs.declared.Finding.{Finding}
 use Rattle.rule.specs.declared.Head.the-variants.{Sub, Ref}
@@ -70,7 +71,7 @@ pub record Examples : Type 0 where
   pub inverse-twice : {n : Counts} {s : List ℕ} {r q t : ℕ} → ClosedStore width n s → Holds width n s (RoleUnder r true q) → Holds width n s (RoleUnder q true t)
       → Holds width n s (RoleUnder r false t)
   -- `same a a` on a fresh store: 0 new cells
-  pub same-itself : {n : Counts} {s t : List ℕ} {a : ℕ} {r : Answer} → a < n .items → Words 64 s → Words 64 t → Keeps width n Nothing s → Adds width n (Same a a) s t r → r ≡ Cells 0
+  pub same-itself : {n : Counts} {s t : List ℕ} {a : ℕ} {r : Answer} → DeclaredItem n a → Words 64 s → Words 64 t → Keeps width n Nothing s → Adds width n (Same a a) s t r → r ≡ Cells 0
   -- `same a b`, two items, nothing else: 2
   pub same-two : {s t : List ℕ} {r : Answer} → Keeps width twoItems Nothing s → Adds width twoItems (Same 0 1) s t r → r ≡ Cells 2
   -- no items, `ref`: 0 findings

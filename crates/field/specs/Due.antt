@@ -1,7 +1,7 @@
 -- What is due in the fields of a line, and whether there are too few fields or too many.
 use mathlib.Core.Bool.{Bool, true, false, cond}
 use mathlib.Core.List.{List, [], _∷_, _++_}
-use Prim.Native.Nat.{ℕ, min, max}
+use Prim.Native.Nat.{ℕ, min, max, _+_}
 use lib.ListN.{take}
 use Rattle.field.specs.declared.Due.{Due}
 use Rattle.field.specs.declared.Due.the-variants.{NewConcept, NewRole, NewItem, Concept, Role, Item, RoleUse, AtLeast, AtMost, Expr, Nothing}
@@ -15,6 +15,7 @@ use Rattle.field.specs.declared.RuleWord.the-variants as rule
 use Rattle.field.specs.declared.StatementWord.{StatementWord}
 use Rattle.field.specs.declared.StatementWord.the-variants as statement
 use Rattle.field.specs.Words.{Field, operatorOf}
+use Rattle.rule.specs.Form.{shortest, longest}
 
 -- the most fields of a line-up
 abbrev pub lineupLimit : ℕ
@@ -32,10 +33,10 @@ three a b c = record { count = 3; first = a; second = b; third = c; fourth = Not
 
 -- the fewest and the most roles of a chain: those of its path, 2 to 4, and the one that the path is under
 abbrev pub chainShortest : ℕ
-chainShortest = 3
+chainShortest = shortest + 1
 
 abbrev pub chainLongest : ℕ
-chainLongest = 5
+chainLongest = longest + 1
 
 -- as many roles as there are fields, within these bounds
 abbrev pub chain : ℕ → Lineup

@@ -7,8 +7,8 @@ use lib.ListN.{length, getD, drop}
 use Rattle.text.specs.Bytes.{between, place}
 use Rattle.text.specs.Date.{dateShaped, digit}
 use Rattle.text.specs.Name.{isName}
-use Rattle.closure.specs.Layout.{conceptLimit, roleLimit, itemLimit, width}
-use Rattle.closure.specs.declared.Counts.{Counts}
+use Rattle.store.specs.Layout.{conceptLimit, roleLimit, itemLimit, width}
+use Rattle.store.specs.declared.Counts.{Counts}
 use Rattle.rule.specs.Form.{countLimit}
 use Rattle.field.specs.declared.Due.{Due}
 use Rattle.field.specs.declared.Due.the-variants.{NewConcept, NewRole, NewItem, Concept, Role, Item, RoleUse, AtLeast, AtMost, Expr, Nothing}

@@ -3,9 +3,9 @@ pub mod names;
 pub mod tables;
 pub mod words;
 
-use closure::Counts;
-use closure::Store;
 use rule::Rule;
+use store::Counts;
+use store::Store;
 
 // The words of concept expressions; None is any other field.
 pub enum Operator {

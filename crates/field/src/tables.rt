@@ -1,13 +1,13 @@
 ghost use mathlib.Core.Path.{_≡_};
 ghost use Prim.Native.Nat.{_+_, _≤_, _<_};
 ghost use lib.ListN.{length};
-ghost use Rattle.text.specs.Split.{fieldFrom};
+ghost use Rattle.text.specs.own.Split.{fieldFrom};
 ghost use Rattle.text.specs.Name.{nameLimit};
-ghost use Rattle.closure.specs.Layout.{conceptLimit, itemLimit, roleLimit, width};
+ghost use Rattle.store.specs.Layout.{conceptLimit, itemLimit, roleLimit, width};
 ghost use Rattle.field.specs.own.Table.{entryOf, placeCount, withConcept, withItem, withRole};
 use crate::Table;
-use closure::Counts;
-use closure::Store;
+use store::Counts;
+use store::Store;
 
 // The entry of the name in the field at a place of a line that starts at a place of the sheet.
 pub fn entry(start: usize, line: &[u8], at: usize) -> u32

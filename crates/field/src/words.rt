@@ -1,7 +1,8 @@
 ghost use mathlib.Core.Path.{_≡_};
 ghost use lib.ListN.{length};
 ghost use Rattle.text.specs.Bytes.{place};
-ghost use Rattle.text.specs.Split.{fields, partsFrom};
+ghost use Rattle.text.specs.Split.{fields};
+ghost use Rattle.text.specs.own.Split.{partsFrom};
 ghost use Rattle.field.specs.Names.{reserved as reservedOf};
 ghost use Rattle.field.specs.Words.{bodyOf, formOf, isRule, lineForm, operatorOf, operatorWords, ruleForm, sectionOf, spellings};
 use crate::Form;

@@ -4,10 +4,10 @@ ghost use lib.Dec.{leb, ltb};
 ghost use Rattle.text.specs.Name.{isName};
 ghost use Rattle.field.specs.Names.{fault, fieldFault, isCount, lowerFault};
 ghost use Rattle.field.specs.own.Table.{Roomy, namesOf};
-use closure::Store;
 use field::Due;
 use field::Table;
 use rule::Rule;
+use store::Store;
 
 // What is wrong with a name to be declared that is at a place among the names, of so many, where there is room for so many.
 fn new_name(found: usize, count: usize, room: usize) -> usize

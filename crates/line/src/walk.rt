@@ -2,7 +2,7 @@ ghost use mathlib.Core.Path.{_≡_};
 ghost use mathlib.Core.Bool.{cond};
 ghost use Prim.Native.Nat.{_≤_, _<_};
 ghost use lib.ListN.{length, getD};
-ghost use Rattle.text.specs.Split.{partsFrom};
+ghost use Rattle.text.specs.own.Split.{partsFrom};
 ghost use Rattle.field.specs.Due.{dues, isExpr};
 ghost use Rattle.field.specs.Names.{nodesOf};
 ghost use Rattle.line.specs.Fault.{none, lineLimit};

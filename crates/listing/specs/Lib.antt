@@ -1,5 +1,4 @@
--- The findings of a rule, and of all rules of a sheet, in the caller's list. Definitions here; what is proved of them in laws.
-pub mod Listing
+-- The findings of a rule, and of all rules of a sheet, in the caller's list. Definitions here; what is proved of them in laws, what only the code speaks of in own.
 pub mod Promise
-pub mod Trail
+pub mod own
 pub mod laws

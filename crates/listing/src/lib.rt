@@ -3,21 +3,21 @@ mod trails;
 
 ghost use Prim.Native.Nat.{_<_, _≤_};
 ghost use lib.ListN.{length};
-ghost use Rattle.rule.specs.Search.{Met, Ready};
-ghost use Rattle.closure.specs.Layout.{width};
-ghost use Rattle.rule.specs.Promise.{Lists};
-ghost use Rattle.listing.specs.Listing.{Written};
+ghost use Rattle.judge.specs.own.Search.{Met, Ready};
+ghost use Rattle.store.specs.Layout.{width};
+ghost use Rattle.judge.specs.Promise.{Lists};
+ghost use Rattle.listing.specs.own.Listing.{Written};
 ghost use Rattle.listing.specs.Promise.{ReadsInto};
-ghost use Rattle.listing.specs.Trail.{Going, Went};
-use closure::Counts;
-use closure::Layout;
+ghost use Rattle.listing.specs.own.Trail.{Going, Went};
 use field::Table;
+use judge::Search;
+use judge::Total;
 use rule::Finding;
 use rule::Head;
 use rule::Rule;
-use rule::Search;
-use rule::Total;
 use sheet::Reading;
+use store::Counts;
+use store::Layout;
 
 // A search for the findings of all rules of a sheet: the finding at hand, the search of its rule, how many that rule has left, and where the sheet is read on for the next rule.
 struct Trail {
@@ -53,7 +53,7 @@ fn write(list: &mut [Finding], n: usize, words: &[u64], first: Search)
     let mut i = 0;
     while i < n {
         list[i] = c.finding;
-        c = rule::seek::step(words, c);
+        c = judge::seek::step(words, c);
         i += 1;
     }
 }
@@ -68,7 +68,7 @@ pub fn findings(
 ) -> Total
     ensures { λ r. ⌜ Lists width counts number rule (now (words .entry)) (now (list .entry)) (now (list .exit)) r ⌝ }
 {
-    let p = rule::seek::prepare(words, counts, number, rule, list.len());
+    let p = judge::seek::prepare(words, counts, number, rule, list.len());
     let n = p.write;
     let c = p.search;
     write(list, n, words, c);

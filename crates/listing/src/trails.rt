@@ -1,18 +1,18 @@
 // The findings of all rules of an accepted sheet, one after the other: parts of `read`, seen in this crate alone.
 ghost use mathlib.Core.Path.{_≡_};
 ghost use Prim.Native.Nat.{min, _≤_};
-ghost use Rattle.closure.specs.Layout.{ClosedStore, width};
+ghost use Rattle.store.specs.Layout.{ClosedStore, width};
 ghost use Rattle.sheet.specs.own.Pass.{Accepts, Paused};
-ghost use Rattle.listing.specs.Trail.{Ended, First, Going, Opens, Sought, Steps, searchOf, trailAt};
+ghost use Rattle.listing.specs.own.Trail.{Ended, First, Going, Opens, Sought, Steps, searchOf, trailAt};
 use crate::Opening;
 use crate::Trail;
-use closure::Item;
 use field::Table;
+use judge::Search;
 use rule::Finding;
 use rule::Head;
-use rule::Search;
 use rule::Second;
 use sheet::Reading;
+use store::Item;
 
 // The search of the rule at hand.
 fn search_of(c: Trail) -> Search
@@ -86,7 +86,7 @@ fn ended(names: Table, past: usize, line: usize, number: usize) -> Trail
         left: none,
         right: none,
         head: Head::Same(Item(0), Item(0)),
-        at: closure::entry::layout(),
+        at: store::size::layout(),
         counts,
     };
     trail_at(s, 0, names, past, line, number)
@@ -97,7 +97,7 @@ fn seek(sheet: &[u8], words: &[u64], names: Table, from: usize, first: usize, ru
     requires { ⌜ ClosedStore width (names .counts) (now words) × Paused (now sheet) names from first × (rule ≤ from) ⌝ }
     ensures { λ r. ⌜ Sought (now (sheet .entry)) (now (words .entry)) names from first rule r ⌝ }
 {
-    let at = closure::entry::layout();
+    let at = store::size::layout();
     let counts = names.counts;
     let mut past = from;
     let mut line = first;
@@ -108,7 +108,7 @@ fn seek(sheet: &[u8], words: &[u64], names: Table, from: usize, first: usize, ru
             return ended(names, past, line, number);
         }
         let u = r.rule;
-        let p = rule::seek::start(words, at, counts, number, u, 0);
+        let p = judge::seek::start(words, at, counts, number, u, 0);
         let answer = p.answer;
         let more = sheet::reads::counted(answer);
         past = r.past;
@@ -128,7 +128,7 @@ pub fn step(sheet: &[u8], words: &[u64], c: Trail) -> Trail
 {
     let names = c.names;
     if 1 < c.more {
-        let s = rule::seek::step(words, search_of(c));
+        let s = judge::seek::step(words, search_of(c));
         return trail_at(s, c.more - 1, names, c.past, c.line, c.number);
     }
     seek(sheet, words, names, c.past, c.line, c.number)

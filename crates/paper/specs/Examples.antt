@@ -4,11 +4,11 @@ use mathlib.Core.Logic.{_↔_}
 use mathlib.Core.Bool.{false}
 use mathlib.Core.List.{List, [], _∷_}
 use Prim.Native.Nat.{ℕ}
-use Rattle.closure.specs.declared.Counts.{Counts}
-use Rattle.closure.specs.declared.Statement.{Statement}
-use Rattle.closure.specs.declared.Statement.the-variants as statement
-use Rattle.closure.specs.Cell.{Cell, Follows, Within}
-use Rattle.closure.specs.Cell.Cell.{In, Link}
+use Rattle.store.specs.declared.Counts.{Counts}
+use Rattle.store.specs.declared.Statement.{Statement}
+use Rattle.store.specs.declared.Statement.the-variants as statement
+use Rattle.store.specs.Cell.{Cell, Follows, Within}
+use Rattle.store.specs.Cell.Cell.{In, Link}
 use Rattle.closure.specs.Lines.{Stated}
 use Rattle.rule.specs.declared.Head.the-variants.{Sub, Ref, Irr}
 use Rattle.rule.specs.declared.Node.the-variants.{Name, Top, Not, AtLeast}

@@ -3,9 +3,9 @@ use mathlib.Core.Path.{_≡_}
 use mathlib.Core.Logic.{_↔_}
 use mathlib.Core.Bool.{Bool, true, false}
 use Prim.Native.Nat.{ℕ}
-use Rattle.closure.specs.declared.Counts.{Counts}
-use Rattle.closure.specs.Cell.{Cell, Within}
-use Rattle.closure.specs.Cell.Cell.{Same, Under, RoleUnder, In, Link}
+use Rattle.store.specs.declared.Counts.{Counts}
+use Rattle.store.specs.Cell.{Cell, Within}
+use Rattle.store.specs.Cell.Cell.{Same, Under, RoleUnder, In, Link}
 
 -- 000, section 3.1: an interpretation has a domain and a value for each name: a set of elements for a concept, a set of pairs for a role, an element
 -- for an item. A number that no item has is given an element too, so that the domain is not empty; nothing looks at the values of undeclared numbers.

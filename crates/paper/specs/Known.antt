@@ -5,8 +5,8 @@ use mathlib.Core.List.{List, [], _∷_}
 use Prim.Native.Nat.{ℕ}
 use lib.ListN.{length}
 use Rattle.logic.specs.Number.{One, Distinct}
-use Rattle.closure.specs.declared.Counts.{Counts}
-use Rattle.closure.specs.Cell.{DeclaredItem}
+use Rattle.store.specs.declared.Counts.{Counts}
+use Rattle.store.specs.Cell.{DeclaredItem}
 use Rattle.rule.specs.declared.RoleUse.{RoleUse}
 use Rattle.rule.specs.Expr.{Expr}
 use Rattle.rule.specs.Expr.Expr.{name, top, neg, both, many, own, one}

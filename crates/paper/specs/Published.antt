@@ -5,20 +5,20 @@ use mathlib.Core.List.{List}
 use Prim.Native.Nat.{ℕ, _*_}
 use lib.ListN.{length, take}
 use Rattle.logic.specs.Number.{One}
-use Rattle.closure.specs.declared.Counts.{Counts}
-use Rattle.closure.specs.declared.Statement.{Statement}
-use Rattle.closure.specs.Cell.{Cell, DeclaredItem, Follows}
-use Rattle.closure.specs.Cell.Cell.{Same}
-use Rattle.closure.specs.Layout.{Holds}
+use Rattle.store.specs.declared.Counts.{Counts}
+use Rattle.store.specs.declared.Statement.{Statement}
+use Rattle.store.specs.Cell.{Cell, DeclaredItem, Follows}
+use Rattle.store.specs.Cell.Cell.{Same}
+use Rattle.store.specs.Layout.{Holds}
 use Rattle.closure.specs.Lines.{Stated}
 use Rattle.rule.specs.declared.Finding.{Finding}
 use Rattle.rule.specs.declared.Rule.{Rule}
 use Rattle.rule.specs.declared.Second.{Second}
-use Rattle.rule.specs.declared.Total.the-variants.{Count}
+use Rattle.judge.specs.declared.Total.the-variants.{Count}
 use Rattle.rule.specs.Breaks.{Breaks}
 use Rattle.rule.specs.Findings.{Findings, findingOf}
 use Rattle.rule.specs.Form.{RuleWithin, WellFormed}
-use Rattle.rule.specs.Promise.{Judged, Totals}
+use Rattle.judge.specs.Promise.{Judged, Totals}
 use Rattle.query.specs.declared.Outcome.the-variants.{Compiled}
 use Rattle.query.specs.Promise.{Compiles}
 use Rattle.query.specs.Says.{Answer}

@@ -2,9 +2,9 @@
 use mathlib.Core.List.{List, [], _∷_}
 use Prim.Native.Nat.{ℕ}
 use lib.ListN.{take}
-use Rattle.closure.specs.declared.Counts.{Counts}
-use Rattle.closure.specs.declared.Item.{Item}
-use Rattle.closure.specs.Cell.{Cell, DeclaredItem}
+use Rattle.store.specs.declared.Counts.{Counts}
+use Rattle.store.specs.declared.Item.{Item}
+use Rattle.store.specs.Cell.{Cell, DeclaredItem}
 use Rattle.rule.specs.declared.Head.{Head}
 use Rattle.rule.specs.declared.Head.the-variants.{Sub, RoleSub, Chain, Ref, Irr, Dis, In, Rel, NoRel, Same, Differ}
 use Rattle.rule.specs.declared.RoleUse.{RoleUse}

@@ -4,8 +4,8 @@ use mathlib.Core.List.{List, _++_}
 use Prim.Native.Nat.{ℕ, _*_, _≤_, _<_}
 use lib.ListN.{length, drop}
 use Rattle.logic.specs.Lowest.{Lowest}
-use Rattle.closure.specs.declared.Counts.{Counts}
-use Rattle.closure.specs.Layout.{Fits}
+use Rattle.store.specs.declared.Counts.{Counts}
+use Rattle.store.specs.Layout.{Fits}
 use Rattle.rule.specs.declared.Rule.{Rule}
 use Rattle.rule.specs.Form.{WellFormed, RuleWithin}
 use Rattle.query.specs.declared.Outcome.{Outcome}

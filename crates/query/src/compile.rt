@@ -1,21 +1,21 @@
 // Compiling a rule by number to a query.
 ghost use mathlib.Core.Path.{_≡_};
 ghost use mathlib.Core.List.{[]};
-ghost use Rattle.closure.specs.Layout.{width};
+ghost use Rattle.store.specs.Layout.{width};
 ghost use Rattle.rule.specs.declared.Head.the-variants as heads;
 ghost use Rattle.query.specs.Translation.{answersOf};
 ghost use Rattle.query.specs.Promise.{Compiles};
-ghost use Rattle.query.specs.Writing.{Filled, Spacious};
+ghost use Rattle.query.specs.own.Writing.{Filled, Spacious};
 use crate::Cursor;
 use crate::Outcome;
 use crate::Query;
 use crate::QueryRefusal;
-use closure::Counts;
-use closure::Item;
 use rule::Head;
 use rule::RoleUse;
 use rule::Rule;
 use rule::Slot;
+use store::Counts;
+use store::Item;
 
 // The number of answer variables of a rule's query.
 fn answers_of(head: Head) -> usize
@@ -47,7 +47,7 @@ fn start(answers: u16) -> Cursor
 }
 
 // Writes C(x), not D(x).
-fn sub(nodes: [Slot; 32], c: usize, d: usize, room: &mut [u16])
+fn sub(nodes: [Slot; Rule::NODES], c: usize, d: usize, room: &mut [u16])
     requires { ⌜ Spacious (now room) nodes (heads.Sub c d) ⌝ }
     ensures { λ r. ⌜ Filled (now (room .entry)) (now (room .exit)) nodes (heads.Sub c d) ⌝ }
 {
@@ -85,7 +85,7 @@ fn disjoint(u: RoleUse, v: RoleUse, room: &mut [u16])
 }
 
 // Writes not C(a).
-fn inside(nodes: [Slot; 32], c: usize, a: Item, room: &mut [u16])
+fn inside(nodes: [Slot; Rule::NODES], c: usize, a: Item, room: &mut [u16])
     requires { ⌜ Spacious (now room) nodes (heads.In c a) ⌝ }
     ensures { λ r. ⌜ Filled (now (room .entry)) (now (room .exit)) nodes (heads.In c a) ⌝ }
 {
@@ -136,7 +136,7 @@ fn differ(a: Item, b: Item, room: &mut [u16])
 }
 
 // Writes the query of a rule from the start of the room.
-fn fill(head: Head, nodes: [Slot; 32], room: &mut [u16])
+fn fill(head: Head, nodes: [Slot; Rule::NODES], room: &mut [u16])
     requires { ⌜ Spacious (now room) nodes head ⌝ }
     ensures { λ r. ⌜ Filled (now (room .entry)) (now (room .exit)) nodes head ⌝ }
 {
@@ -164,7 +164,7 @@ impl Query {
     pub fn compile(counts: Counts, rule: Rule, room: &mut [u16]) -> Outcome
         ensures { λ r. ⌜ Compiles width counts rule (now (room .entry)) (now (room .exit)) r ⌝ }
     {
-        if !closure::entry::fits(counts) {
+        if !store::size::fits(counts) {
             return Outcome::Refused(QueryRefusal::Size);
         }
         if !rule::form::well_formed(rule) {

@@ -3,7 +3,7 @@ ghost use mathlib.Core.Path.{_≡_};
 ghost use Prim.Native.Nat.{min, _+_, _*_, _-_, _/_, _≤_};
 ghost use Rattle.rule.specs.Expr.{exprAt};
 ghost use Rattle.query.specs.Promise.{itemLimit};
-ghost use Rattle.query.specs.Writing.{Capped, Long};
+ghost use Rattle.query.specs.own.Writing.{Capped, Long};
 use crate::Query;
 use rule::Head;
 use rule::Node;
@@ -36,7 +36,7 @@ fn at_least(n: usize, c: usize) -> usize
 }
 
 // The number of items of the expression at a node. It reads `left` nodes deep.
-pub fn length_of(nodes: [Slot; 32], left: usize, at: usize) -> usize
+pub fn length_of(nodes: [Slot; Rule::NODES], left: usize, at: usize) -> usize
     ensures { λ r. ⌜ Capped (exprAt left nodes at) r ⌝ }
 {
     if left == 0 {
@@ -75,7 +75,7 @@ fn chain_length(k: usize) -> usize
 }
 
 // The number of items of a rule's query.
-pub fn rule_length(head: Head, nodes: [Slot; 32]) -> usize
+pub fn rule_length(head: Head, nodes: [Slot; Rule::NODES]) -> usize
     ensures { λ r. ⌜ Long nodes head r ⌝ }
 {
     match head {

@@ -1,7 +1,7 @@
 // Queries: a rule compiled to query items.
-pub mod compile;
-pub mod length;
-pub mod write;
+mod compile;
+mod length;
+mod write;
 
 // What limits a query.
 pub struct Query {}

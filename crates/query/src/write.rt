@@ -1,18 +1,19 @@
 // Writing query items: a cursor that each function hands back. Recursion goes down the nodes, with the nodes left as the falling number.
 ghost use mathlib.Core.Path.{_≡_};
 ghost use mathlib.Core.List.{_∷_, []};
-ghost use Prim.Native.Nat.{_+_, _*_, _≤_, _<_};
+ghost use Prim.Native.Nat.{_+_, _≤_, _<_};
 ghost use lib.ListN.{length};
 ghost use Rattle.rule.specs.Expr.{exprAt};
 ghost use Rattle.query.specs.Body.{firstItem, eq, flat, atom, end};
 ghost use Rattle.query.specs.Translation.{link, without};
-ghost use Rattle.query.specs.Writing.{Wrote, RoomFor, Roomy, Written, RoomyTurns, Turned, RoomyApart, Parted, RoomyPairs, Paired, RoomyPath, Pathed};
+ghost use Rattle.query.specs.own.Writing.{Wrote, RoomFor, Roomy, Written, RoomyTurns, Turned, RoomyApart, Parted, RoomyPairs, Paired, RoomyPath, Pathed};
 use crate::Cursor;
 use crate::Query;
-use closure::Item;
 use rule::Node;
 use rule::RoleUse;
+use rule::Rule;
 use rule::Slot;
+use store::Item;
 
 // A number as a word.
 fn word(n: usize) -> u16
@@ -129,7 +130,14 @@ impl Cursor {
     }
 
     // Writes the expression at a node of the term t. It reads `left` nodes deep.
-    pub fn expr(self, nodes: [Slot; 32], left: usize, at: usize, t: u16, room: &mut [u16]) -> Cursor
+    pub fn expr(
+        self,
+        nodes: [Slot; Rule::NODES],
+        left: usize,
+        at: usize,
+        t: u16,
+        room: &mut [u16],
+    ) -> Cursor
         requires { ⌜ Roomy (now room) self (exprAt left nodes at) ⌝ }
         ensures { λ r. ⌜ Written (now (room .entry)) (now (room .exit)) self r t (exprAt left nodes at) ⌝ }
     {
@@ -167,7 +175,7 @@ impl Cursor {
     // n times: a new variable, its role atom, then the expression at a node of it.
     fn turns(
         self,
-        nodes: [Slot; 32],
+        nodes: [Slot; Rule::NODES],
         left: usize,
         at: usize,
         u: RoleUse,

@@ -1,11 +1,4 @@
--- Why a cell follows: statements from which it follows, and from no part of them. Definitions here; what is proved of them in laws.
+-- Why a cell follows: parts of a list with nothing to spare. Definitions here; what is proved of them in laws, what only the search speaks of in own.
 pub mod Part
-pub mod Code
-pub mod Walk
-pub mod Picked
-pub mod Promise
-pub mod Seek
-pub mod Steps
-pub mod Fact
-pub mod Aim
+pub mod own
 pub mod laws

@@ -1,9 +1,9 @@
 // The search for a reason of a fact: the statement from which steps lead to it, the steps above, and the steps of "same".
-ghost use Rattle.reason.specs.Aim.{Above, Aimed, Beside, Fresh, Joinable, Joined, Reaches, Sighted, Starts};
+ghost use Rattle.reason.specs.own.Aim.{Above, Aimed, Beside, Fresh, Joinable, Joined, Reaches, Sighted, Starts};
 use crate::Fact;
 use crate::Kind;
 use crate::Lines;
-use closure::Counts;
+use store::Counts;
 
 // The place of the first statement from which steps lead to the fact g.
 fn find(codes: &[u32], g: Fact, same: &[u64; Lines::TABLE], above: &[u64; Lines::TABLE]) -> usize
@@ -65,7 +65,7 @@ fn join(marks: &mut [u64; Lines::WORDS], more: &[u64; Lines::WORDS], n: usize)
     requires { ⌜ Joinable (now marks) (now more) n ⌝ }
     ensures { λ _. ⌜ Joined (now (marks .entry)) (now (more .entry)) n (now (marks .exit)) ⌝ }
 {
-    row::change::row_or(marks, 0, Lines::WORDS, more, true);
+    rewrite::change::row_or(marks, 0, Lines::WORDS, more, true);
     crate::marks::mark(marks, n);
 }
 

@@ -1,12 +1,12 @@
 // Statements as numbers.
 ghost use mathlib.Core.Path.{_≡_};
 ghost use Prim.Native.Nat.{_+_, _*_, _<_};
-ghost use Rattle.closure.specs.Cell.{cellOf};
-ghost use Rattle.reason.specs.Code.{Small, cellAt, roleKind};
-use closure::Concept;
-use closure::Item;
-use closure::Role;
-use closure::Statement;
+ghost use Rattle.store.specs.Cell.{cellOf};
+ghost use Rattle.reason.specs.own.Code.{Small, cellAt, roleKind};
+use store::Concept;
+use store::Item;
+use store::Role;
+use store::Statement;
 
 // The number that has a kind and three further numbers in their places.
 fn number(kind: usize, a: usize, b: usize, r: usize) -> u32

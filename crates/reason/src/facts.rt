@@ -2,21 +2,21 @@
 ghost use mathlib.Core.Path.{_≡_};
 ghost use Prim.Native.Nat.{_<_};
 ghost use lib.ListN.{length};
-ghost use Rattle.closure.specs.Cell.{cellOf};
-ghost use Rattle.closure.specs.Layout.{roleLimit};
-ghost use Rattle.reason.specs.Aim as aim;
-ghost use Rattle.reason.specs.Aim.{Near, Small};
-ghost use Rattle.reason.specs.Fact as spec;
-ghost use Rattle.reason.specs.Fact.{factOf, kindAbove};
-ghost use Rattle.reason.specs.Walk.{node};
+ghost use Rattle.store.specs.Cell.{cellOf};
+ghost use Rattle.store.specs.Layout.{roleLimit};
+ghost use Rattle.reason.specs.own.Aim as aim;
+ghost use Rattle.reason.specs.own.Aim.{Near, Small};
+ghost use Rattle.reason.specs.own.Fact as spec;
+ghost use Rattle.reason.specs.own.Fact.{factOf, kindAbove};
+ghost use Rattle.reason.specs.own.Walk.{node};
 use crate::Fact;
 use crate::Goal;
 use crate::Kind;
 use crate::Lines;
 use crate::Route;
 use crate::Way;
-use closure::Statement;
-use closure::Store;
+use store::Statement;
+use store::Store;
 
 // The place of a role, or of its inverse.
 pub fn role_place(inverse: bool, r: usize) -> usize

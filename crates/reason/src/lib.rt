@@ -6,12 +6,12 @@ pub mod marks;
 mod reach;
 mod seek;
 
-ghost use Rattle.closure.specs.Cell.{cellOf};
-ghost use Rattle.reason.specs.Aim.{plainGoal};
-ghost use Rattle.reason.specs.Promise.{Reasoned, Sought};
-ghost use Rattle.reason.specs.Seek.{Narrowest, Wanted};
-use closure::Counts;
-use closure::Statement;
+ghost use Rattle.store.specs.Cell.{cellOf};
+ghost use Rattle.reason.specs.own.Aim.{plainGoal};
+ghost use Rattle.reason.specs.own.Promise.{Reasoned, Sought};
+ghost use Rattle.reason.specs.own.Seek.{Narrowest, Wanted};
+use store::Counts;
+use store::Statement;
 
 // The statements that are searched.
 pub struct Lines {}

@@ -3,9 +3,9 @@ ghost use mathlib.Core.Path.{_≡_};
 ghost use mathlib.Core.Bool.{true};
 ghost use Prim.Native.Nat.{_*_, _<_};
 ghost use lib.ListN.{length};
-ghost use Rattle.row.specs.Pick.{Marked};
-ghost use Rattle.row.specs.Row.{rowHasb};
-ghost use Rattle.reason.specs.Picked.{markWords};
+ghost use Rattle.row.specs.own.Pick.{Marked};
+ghost use Rattle.row.specs.own.Row.{rowHasb};
+ghost use Rattle.reason.specs.own.Picked.{markWords};
 use crate::Lines;
 
 // Whether the statement at the place n is marked.

@@ -1,5 +1,5 @@
 // The search for statements by which a goal is reached: they are marked one after the other, the last first.
-ghost use Rattle.reason.specs.Seek.{Narrowest, Wanted};
+ghost use Rattle.reason.specs.own.Seek.{Narrowest, Wanted};
 use crate::Goal;
 use crate::Kind;
 use crate::Lines;

@@ -1,3 +1,4 @@
--- What is printed of a sheet.
-pub mod Lines
+-- What is printed of a sheet. Definitions here; what is proved of them in laws, what only the code speaks of in own.
+pub mod Promise
+pub mod own
 pub mod laws

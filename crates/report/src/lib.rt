@@ -2,6 +2,14 @@
 pub mod page;
 pub mod print;
 
+// What is printed of a sheet.
+pub struct Report {}
+
+impl Report {
+    // Bytes that suffice for the text of any sheet.
+    pub const BYTES: usize = 18700;
+}
+
 // How far the findings are printed: the place in the room, how many more may be printed, and how many there are so far in all.
 pub struct Tally {
     pub at: usize,

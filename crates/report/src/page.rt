@@ -1,11 +1,12 @@
 // The whole text of a sheet.
 ghost use Rattle.sheet.specs.own.Pass.{Judges};
-ghost use Rattle.report.specs.Lines.{Filled, JudgedAll, Pages};
+ghost use Rattle.report.specs.own.Lines.{Filled, JudgedAll};
+ghost use Rattle.report.specs.Promise.{Pages, PagesIn};
 use crate::Tally;
-use closure::Store;
 use field::Table;
 use line::Sheet;
 use sheet::Ended;
+use store::Store;
 
 // Judges the rules of an accepted sheet one after the other: prints their findings and counts them.
 fn judge_all(sheet: &[u8], t: Table, words: &[u64], room: &mut [u8]) -> Tally
@@ -42,11 +43,21 @@ fn print_ended(sheet: &[u8], e: Ended, words: &[u64], room: &mut [u8]) -> usize
     crate::print::refused(room, 0, e.line, e.why)
 }
 
+// Reads a sheet into the lent store and writes the text for it, as far as the room reaches; gives the length of the whole text.
+pub fn page_in(sheet: &[u8], words: &mut [u64], room: &mut [u8]) -> usize
+    ensures { λ r. ⌜ PagesIn (now (sheet .entry)) (now (words .entry)) (now (words .exit)) (now (room .entry)) (now (room .exit)) r ⌝ }
+{
+    if words.len() != Store::WORDS {
+        return crate::print::refused(room, 0, 0, 1);
+    }
+    let e = sheet::sheets::fill(sheet, words);
+    print_ended(sheet, e, words, room)
+}
+
 // Writes the text that is printed for a sheet, as far as the room reaches; gives the length of the whole text.
 pub fn page(sheet: &[u8], room: &mut [u8]) -> usize
     ensures { λ r. ⌜ Pages (now (sheet .entry)) (now (room .entry)) (now (room .exit)) r ⌝ }
 {
     let mut words = [0u64; Store::WORDS];
-    let e = sheet::sheets::fill(sheet, &mut words);
-    print_ended(sheet, e, &words, room)
+    page_in(sheet, &mut words, room)
 }

@@ -3,18 +3,18 @@ ghost use mathlib.Core.Path.{_≡_};
 ghost use mathlib.Core.List.{[]};
 ghost use Prim.Native.Nat.{_*_, _+_, _<_, _≤_};
 ghost use lib.ListN.{getD};
-ghost use Rattle.rule.specs.Search.{Ready};
+ghost use Rattle.judge.specs.own.Search.{Ready};
 ghost use Rattle.text.specs.Text.{decimal, Wrote};
 ghost use Rattle.sheet.specs.Promise.{refusedText, secondText, tabbed, totalText};
-ghost use Rattle.field.specs.own.Table.{nameAt, namesOf};
-ghost use Rattle.report.specs.Lines.{RuleLines, Tallied, Tallying, lineText};
+ghost use Rattle.field.specs.own.Table.{namesOf};
+ghost use Rattle.report.specs.own.Lines.{RuleLines, Tallied, Tallying, lineText};
 use crate::Tally;
-use closure::Item;
 use field::Table;
+use judge::Search;
 use rule::Finding;
 use rule::Rule;
-use rule::Search;
 use rule::Second;
+use store::Item;
 
 // The name of an item; no bytes where there is none with that number.
 fn name(sheet: &[u8], t: Table, a: Item) -> &[u8]
@@ -117,7 +117,7 @@ fn findings(
     while i < n {
         let f = c.finding;
         p = finding(sheet, t, line, f, room, p);
-        c = rule::seek::step(words, c);
+        c = judge::seek::step(words, c);
         i += 1;
     }
     p
@@ -137,9 +137,9 @@ pub fn judge(
     requires { ⌜ Tallying (now words) (t .counts) b ⌝ }
     ensures { λ r. ⌜ Tallied (now (words .entry)) (t .counts) number u (namesOf (now (sheet .entry)) t) line (now (room .entry)) b (now (room .exit)) r ⌝ }
 {
-    let layout = closure::entry::layout();
+    let layout = store::size::layout();
     let counts = t.counts;
-    let p = rule::seek::start(words, layout, counts, number, u, b.left);
+    let p = judge::seek::start(words, layout, counts, number, u, b.left);
     let n = p.write;
     let first = p.search;
     let answer = p.answer;

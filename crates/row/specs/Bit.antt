@@ -1,29 +1,13 @@
 -- A word as a row of bits, bit 0 the lowest.
 use mathlib.Core.Path.{_≡_}
-use mathlib.Core.Bool.{Bool}
 use mathlib.Core.List.{List, [], _∷_}
-use Prim.Native.Nat.{ℕ, _+_, _-_, _/_, _%_, _^_, _<_, min, _≤_}
+use Prim.Native.Nat.{ℕ, _+_, _/_, _%_, _^_, _<_}
 use lib.Count.{ones}
-use lib.Dec.{eqb}
 use lib.ListN.{getD}
 
 -- bit k of the word n is set
 pub record Has (n k : ℕ) : Type 0 where
   pub bit : n / 2 ^ k % 2 ≡ 1
-
--- the same as a test
-abbrev pub hasb : ℕ → ℕ → Bool
-hasb w k = eqb (w / 2 ^ k % 2) 1
-
--- the word of 64 bits whose bits below n are set, and no other
-unfoldable pub lowBits : ℕ → ℕ
-lowBits n = 2 ^ min n 64 - 1
-
--- r is the lowest set bit of the word w from k on; it is past the word's 64 bits if there is none
-pub record LowestBit (w k r : ℕ) : Type 0 where
-  pub from : k ≤ r
-  pub found : r < 64 → Has w r
-  pub least : (j : ℕ) → k ≤ j → j < r → ¬ (Has w j)
 
 -- how many bits of the words are set
 abbrev pub total : List ℕ → ℕ
@@ -33,7 +17,3 @@ total (w ∷ ws) = ones w + total ws
 -- every word has w bits
 abbrev pub Words : ℕ → List ℕ → Type 0
 Words w s = (i : ℕ) → getD s i 0 < 2 ^ w
-
--- every set bit of s is set in t
-abbrev pub Part : List ℕ → List ℕ → Type 0
-Part s t = (i k : ℕ) → Has (getD s i 0) k → Has (getD t i 0) k

@@ -1,8 +1,4 @@
--- Words as rows of bits. Definitions here; what is proved of them in laws.
+-- Words as rows of bits: when a bit is set. What the functions on rows do stands in own, what is proved of it in laws.
 pub mod Bit
-pub mod Row
-pub mod Change
-pub mod Pick
-pub mod Test
-pub mod Below
+pub mod own
 pub mod laws

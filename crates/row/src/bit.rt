@@ -2,8 +2,9 @@ ghost use mathlib.Core.Path.{_≡_};
 ghost use mathlib.Core.Bool.{_&&_, _||_};
 ghost use Prim.Native.Nat.{_^_, _≤_, _<_};
 ghost use lib.ListN.{length};
-ghost use Rattle.row.specs.Change.{grown, orIf};
-ghost use Rattle.row.specs.Bit.{hasb, lowBits, total, LowestBit};
+ghost use Rattle.row.specs.own.Change.{grown, orIf};
+ghost use Rattle.row.specs.own.Bit.{hasb, lowBits};
+ghost use Rattle.row.specs.Bit.{total};
 
 // Whether bit k of w is set.
 pub fn has_bit(w: u64, k: u64) -> bool
@@ -67,14 +68,6 @@ pub fn grow(w: u64, k: u64, m: u64) -> u64
     ensures { λ r. ⌜ r ≡ grown k m w ⌝ }
 {
     or_if(has_bit(w, k), m, w)
-}
-
-// The lowest bit of w from k on; 64 or more, if there is none.
-pub fn lowest(w: u64, k: usize) -> usize
-    requires { ⌜ k < 64 ⌝ }
-    ensures { λ r. ⌜ LowestBit w k r ⌝ }
-{
-    k + u64::trailing_zeros(w >> (k as u64)) as usize
 }
 
 // How many bits are set in all.

@@ -1,7 +1,11 @@
-// Words as rows of bits. Row x of a part that begins at `from` has `width` words, from + x * width and on.
-pub mod below;
+// Words as rows of bits. Each fact about a row is proved once, over its width.
 pub mod bit;
-pub mod change;
 pub mod copy;
+pub mod number;
 pub mod pick;
-pub mod test;
+
+// How many words a row has that stands alone.
+pub const ROOM: usize = 8;
+
+// A row that stands alone.
+pub type Row = [u64; ROOM];

@@ -1,45 +1,48 @@
 ghost use mathlib.Core.Path.{_≡_};
 ghost use Prim.Native.Nat.{_+_, _*_, _≤_, _<_};
 ghost use lib.ListN.{length};
-ghost use Rattle.logic.specs.Decides.{Decides};
-ghost use Rattle.row.specs.Pick.{AllBelow, Alone, Empty, Least, Marked, Met, Next, Shared, Without, room};
-ghost use Rattle.row.specs.Row.{RowHas};
+ghost use Rattle.logic.specs.own.Decides.{Decides};
+ghost use Rattle.row.specs.own.Bit.{LowestBit};
+ghost use Rattle.row.specs.own.Pick.{AllBelow, Alone, Empty, Least, Marked, Met, Next, Shared, Without, room};
+ghost use Rattle.row.specs.own.Row.{RowHas};
+use crate::ROOM;
+use crate::Row;
 
 // A row with no number.
-pub fn empty() -> [u64; 8]
+pub fn empty() -> Row
     ensures { λ r. ⌜ Empty r ⌝ }
 {
-    [0u64; 8]
+    [0u64; ROOM]
 }
 
 // The row of all numbers below n.
-pub fn below(n: usize) -> [u64; 8]
+pub fn below(n: usize) -> Row
     requires { ⌜ n ≤ 64 * room ⌝ }
     ensures { λ r. ⌜ AllBelow n r ⌝ }
 {
-    let mut r = [0u64; 8];
+    let mut r = [0u64; ROOM];
     let mut left = n;
     let mut h = 0;
-    while h < 8 {
+    while h < ROOM {
         r[h] = crate::bit::low_bits(left);
-        left = crate::below::after_word(left);
+        left = crate::number::after_word(left);
         h += 1;
     }
     r
 }
 
 // A row with the number x alone.
-pub fn alone(x: usize) -> [u64; 8]
+pub fn alone(x: usize) -> Row
     requires { ⌜ x < 64 * room ⌝ }
     ensures { λ r. ⌜ Alone x r ⌝ }
 {
-    let mut r = [0u64; 8];
+    let mut r = [0u64; ROOM];
     r[x / 64] = crate::bit::one_bit((x % 64) as u64);
     r
 }
 
 // Whether x is in the row.
-pub fn has(r: &[u64; 8], x: usize) -> bool
+pub fn has(r: &Row, x: usize) -> bool
     requires { ⌜ x < 64 * room ⌝ }
     ensures { λ b. ⌜ Decides b (RowHas (now (r .entry)) x) ⌝ }
 {
@@ -48,7 +51,7 @@ pub fn has(r: &[u64; 8], x: usize) -> bool
 }
 
 // The row takes on x, if `on`.
-pub fn mark(r: &mut [u64; 8], x: usize, on: bool)
+pub fn mark(r: &mut Row, x: usize, on: bool)
     requires { ⌜ (length (now r) ≡ room) × (x < 64 * room) ⌝ }
     ensures { λ _. ⌜ Marked on x (now (r .entry)) (now (r .exit)) ⌝ }
 {
@@ -57,12 +60,12 @@ pub fn mark(r: &mut [u64; 8], x: usize, on: bool)
 }
 
 // What both rows have.
-pub fn meet(a: &[u64; 8], b: &[u64; 8]) -> [u64; 8]
+pub fn meet(a: &Row, b: &Row) -> Row
     ensures { λ r. ⌜ Met (now (a .entry)) (now (b .entry)) r ⌝ }
 {
-    let mut r = [0u64; 8];
+    let mut r = [0u64; ROOM];
     let mut h = 0;
-    while h < 8 {
+    while h < ROOM {
         r[h] = a[h] & b[h];
         h += 1;
     }
@@ -70,12 +73,12 @@ pub fn meet(a: &[u64; 8], b: &[u64; 8]) -> [u64; 8]
 }
 
 // What the row a has and the row b has not.
-pub fn without(a: &[u64; 8], b: &[u64; 8]) -> [u64; 8]
+pub fn without(a: &Row, b: &Row) -> Row
     ensures { λ r. ⌜ Without (now (a .entry)) (now (b .entry)) r ⌝ }
 {
-    let mut r = [0u64; 8];
+    let mut r = [0u64; ROOM];
     let mut h = 0;
-    while h < 8 {
+    while h < ROOM {
         r[h] = a[h] ^ (a[h] & b[h]);
         h += 1;
     }
@@ -83,7 +86,7 @@ pub fn without(a: &[u64; 8], b: &[u64; 8]) -> [u64; 8]
 }
 
 // Whether the row of `width` words at `from` and the row p have a number in common.
-pub fn shares(s: &[u64], from: usize, width: usize, p: &[u64; 8]) -> bool
+pub fn shares(s: &[u64], from: usize, width: usize, p: &Row) -> bool
     requires { ⌜ (from + width ≤ length (now s)) × (width ≤ room) ⌝ }
     ensures { λ b. ⌜ Decides b (Shared (now (s .entry)) from width (now (p .entry))) ⌝ }
 {
@@ -99,18 +102,26 @@ pub fn shares(s: &[u64], from: usize, width: usize, p: &[u64; 8]) -> bool
 }
 
 // The least number of the row; if it has none, the number of its bits.
-pub fn least(r: &[u64; 8]) -> usize
+pub fn least(r: &Row) -> usize
     ensures { λ x. ⌜ Least (now (r .entry)) x ⌝ }
 {
     let mut h = 0;
-    while h < 8 {
+    while h < ROOM {
         let t = u64::trailing_zeros(r[h]) as usize;
         if t < 64 {
             return h * 64 + t;
         }
         h += 1;
     }
-    64 * 8
+    64 * ROOM
+}
+
+// The lowest bit of w from k on; 64 or more, if there is none.
+fn lowest(w: u64, k: usize) -> usize
+    requires { ⌜ k < 64 ⌝ }
+    ensures { λ r. ⌜ LowestBit w k r ⌝ }
+{
+    k + u64::trailing_zeros(w >> (k as u64)) as usize
 }
 
 // The least number of the row from x on that is below `count`; if it has none, `count`.
@@ -121,11 +132,11 @@ pub fn next(r: &[u64], x: usize, count: usize) -> usize
     let mut at = x;
     while at < count {
         let start = at / 64 * 64;
-        let k = crate::bit::lowest(r[at / 64], at % 64);
+        let k = lowest(r[at / 64], at % 64);
         if k < 64 {
-            return crate::below::lesser(start + k, count);
+            return crate::number::lesser(start + k, count);
         }
-        at = start + crate::below::lesser(64, count - start);
+        at = start + crate::number::lesser(64, count - start);
     }
     count
 }

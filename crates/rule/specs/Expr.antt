@@ -1,8 +1,8 @@
 -- Concept expressions, the short forms, and the expression that a rule's nodes stand for.
 use mathlib.Core.List.{List}
 use Prim.Native.Nat.{ℕ, zero, suc}
-use Rattle.closure.specs.declared.Concept.{Concept}
-use Rattle.closure.specs.declared.Item.{Item}
+use Rattle.store.specs.declared.Concept.{Concept}
+use Rattle.store.specs.declared.Item.{Item}
 use Rattle.rule.specs.declared.Node.{Node}
 use Rattle.rule.specs.declared.Node.the-variants.{Name, Top, Not, And, AtLeast, SelfOf, One}
 use Rattle.rule.specs.declared.Slot.{Slot}

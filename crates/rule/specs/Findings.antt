@@ -4,8 +4,8 @@ use mathlib.Core.Logic.{_⊎_}
 use mathlib.Core.List.{List, [], _∷_}
 use Prim.Native.Nat.{ℕ, _<_}
 use Rattle.logic.specs.Number.{One}
-use Rattle.closure.specs.declared.Counts.{Counts}
-use Rattle.closure.specs.Cell.{Cell}
+use Rattle.store.specs.declared.Counts.{Counts}
+use Rattle.store.specs.Cell.{Cell}
 use Rattle.rule.specs.declared.Finding.{Finding}
 use Rattle.rule.specs.declared.Rule.{Rule}
 use Rattle.rule.specs.declared.Second.{Second}

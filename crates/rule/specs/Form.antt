@@ -5,8 +5,8 @@ use mathlib.Core.List.{List}
 use Prim.Native.Nat.{ℕ, zero, suc, _+_, _≤_, _<_}
 use lib.Dec.{eqb}
 use lib.ListN.{getD}
-use Rattle.closure.specs.declared.Counts.{Counts}
-use Rattle.closure.specs.Cell.{DeclaredItem, DeclaredConcept, DeclaredRole}
+use Rattle.store.specs.declared.Counts.{Counts}
+use Rattle.store.specs.Cell.{DeclaredItem, DeclaredConcept, DeclaredRole}
 use Rattle.rule.specs.declared.Node.{Node}
 use Rattle.rule.specs.declared.Node.the-variants.{Name, Top, Not, And, AtLeast, SelfOf, One}
 use Rattle.rule.specs.declared.Slot.{Slot}
@@ -20,6 +20,14 @@ nodeLimit = 32
 
 abbrev pub countLimit : ℕ
 countLimit = 8
+
+-- the fewest roles of a chain's path
+abbrev pub shortest : ℕ
+shortest = 2
+
+-- and the most
+abbrev pub longest : ℕ
+longest = 4
 
 -- the node at place i
 abbrev pub nodeAt : List Slot → ℕ → Node
@@ -62,7 +70,7 @@ rootUses (Differ i i′) j = 0
 abbrev pub HeadFits : ℕ → Head → Type 0
 HeadFits len (Sub a b) = (a < len) × (b < len)
 HeadFits len (RoleSub r s) = Unit {0}
-HeadFits len (Chain k r1 r2 r3 r4 r) = (2 ≤ k) × (k ≤ 4)
+HeadFits len (Chain k r1 r2 r3 r4 r) = (shortest ≤ k) × (k ≤ longest)
 HeadFits len (Ref r) = Unit {0}
 HeadFits len (Irr r) = Unit {0}
 HeadFits len (Dis r s) = Unit {0}

@@ -4,12 +4,4 @@ pub mod Expr
 pub mod Meaning
 pub mod Breaks
 pub mod Findings
-pub mod Promise
-pub mod Demand2
-pub mod Row
-pub mod Reach
-pub mod Tally
-pub mod Plan
-pub mod Cursor
-pub mod Search
 pub mod laws

@@ -1,15 +1,15 @@
 // The form of a rule by number: refusals 3 and 4.
 ghost use mathlib.Core.Path.{_≡_};
 ghost use Prim.Native.Nat.{ℕ, _+_, _<_, _≤_};
-ghost use Rattle.logic.specs.Decides.{Decides};
-ghost use Rattle.closure.specs.Cell.{DeclaredItem, DeclaredRole};
+ghost use Rattle.logic.specs.own.Decides.{Decides};
+ghost use Rattle.store.specs.Cell.{DeclaredItem, DeclaredRole};
 ghost use Rattle.rule.specs.Form.{nodeLimit, nodeAt, hit, uses, usesBelow, rootUses, HeadFits, UsesLater, CountFits, WellFormed, NodeWithin, HeadWithin, RuleWithin};
 use crate::Head;
 use crate::Node;
 use crate::RoleUse;
 use crate::Rule;
-use closure::Counts;
-use closure::Item;
+use store::Counts;
+use store::Item;
 
 // 1 if the two numbers are equal, and 0 if not.
 fn equal(a: usize, j: usize) -> usize

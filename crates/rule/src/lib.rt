@@ -1,21 +1,10 @@
-// Rules by number: their form, what they mean, and what breaks them.
-pub mod breaking;
-pub mod count;
-pub mod findings;
+// Rules by number: their form, what they mean, and what breaks them. Nothing here reads a store.
 pub mod form;
-pub mod found;
-pub mod holding;
-pub mod look;
 pub mod nodes;
-pub mod reach;
-pub mod seek;
-pub mod tally;
 
-use closure::Concept;
-use closure::Counts;
-use closure::Item;
-use closure::Layout;
-use closure::Role;
+use store::Concept;
+use store::Item;
+use store::Role;
 
 // A role, or its inverse.
 pub struct RoleUse {
@@ -66,7 +55,7 @@ pub enum Head {
 pub struct Rule {
     pub head: Head,
     pub len: usize,
-    pub nodes: [Slot; 32],
+    pub nodes: [Slot; Rule::NODES],
 }
 
 impl Rule {
@@ -91,63 +80,4 @@ pub struct Finding {
     pub rule: usize,
     pub item: Item,
     pub second: Second,
-}
-
-// Why a rule is refused.
-pub enum RuleRefusal {
-    // The store is not as long as it must be, or a declared count is over its limit: 1.
-    Size,
-    // The store is not closed: 2.
-    NotClosed,
-    // The rule is malformed: 3.
-    Malformed,
-    // An item, concept or role number is not below its count: 4.
-    Number,
-}
-
-// How many findings a rule has, or why it is refused.
-pub enum Total {
-    Count(u64),
-    Refused(RuleRefusal),
-}
-
-// A root of a rule: the number of its node, or none.
-pub enum Root {
-    None,
-    At(usize),
-}
-
-// What is kept of a rule while its findings are sought: its head, and the rows of what its roots hold of.
-pub struct Plan {
-    pub head: Head,
-    pub left: [u64; 8],
-    pub right: [u64; 8],
-}
-
-// Where the findings are: the plan, the places that are left in the row of x, and the least of them, y. At the end x is the number of items.
-pub struct Cursor {
-    pub plan: Plan,
-    pub row: [u64; 8],
-    pub x: usize,
-    pub y: usize,
-}
-
-// A search for findings that a writer steps: the finding at hand, the parts of the cursor there, and what it reads the store by.
-pub struct Search {
-    pub finding: Finding,
-    pub x: usize,
-    pub y: usize,
-    pub row: [u64; 8],
-    pub left: [u64; 8],
-    pub right: [u64; 8],
-    pub head: Head,
-    pub at: Layout,
-    pub counts: Counts,
-}
-
-// What a listing needs: its answer, how many findings to write, and the search at the first.
-pub struct Prepared {
-    pub answer: Total,
-    pub write: usize,
-    pub search: Search,
 }

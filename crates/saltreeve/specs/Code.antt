@@ -3,11 +3,11 @@ use mathlib.Core.Path.{_≡_}
 use mathlib.Core.List.{List}
 use Prim.Native.Nat.{ℕ, _*_, _≤_}
 use lib.IntN.{ℤ, pos, negℤ}
-use Rattle.closure.specs.declared.Counts.{Counts}
+use Rattle.store.specs.declared.Counts.{Counts}
 use Rattle.closure.specs.declared.Answer.{Answer}
 use Rattle.closure.specs.declared.Answer.the-variants.{Cells, Refused}
-use Rattle.closure.specs.Cell.{Cell}
-use Rattle.closure.specs.Layout.{size, width}
+use Rattle.store.specs.Cell.{Cell}
+use Rattle.store.specs.Layout.{size, width}
 use Rattle.closure.specs.Refusal.{number}
 use Rattle.closure.specs.Promise.{Makes, Adds}
 

@@ -3,4 +3,5 @@ pub mod Code
 pub mod Room
 pub mod Check
 pub mod Why
+pub mod own
 pub mod laws

@@ -5,9 +5,9 @@ use mathlib.Core.List.{List}
 use Prim.Native.Nat.{ℕ, _+_, _*_, _<_}
 use lib.Dec.{eqb}
 use lib.IntN.{ℤ, pos, negℤ}
-use Rattle.closure.specs.Cell.{Cell}
-use Rattle.closure.specs.Cell.Cell.{Same, Under, RoleUnder, In, Link}
-use Rattle.closure.specs.Layout.{conceptLimit, roleLimit}
+use Rattle.store.specs.Cell.{Cell}
+use Rattle.store.specs.Cell.Cell.{Same, Under, RoleUnder, In, Link}
+use Rattle.store.specs.Layout.{conceptLimit, roleLimit}
 use Rattle.why.specs.declared.Explained.{Explained}
 use Rattle.why.specs.declared.Explained.the-variants as explained
 use Rattle.why.specs.declared.FindingExplained.{FindingExplained}
@@ -45,12 +45,12 @@ abbrev pub findingCode : FindingExplained → ℤ
 findingCode (finding.Lines m d) = pos (1000000 * d .0 + m)
 findingCode (finding.Refused line k) = refusalCode line k
 
--- an answer whose parts can be told from one number, as those of every answer can: laws/Bounds (own use)
+-- an answer whose parts can be told from one number, as those of every answer can: laws/Bounds
 abbrev pub SmallExplained : Explained → Type 0
 SmallExplained (explained.Lines m) = m < 1000000
 SmallExplained (explained.Refused line k) = (line < 1000000) × (k < 100)
 
--- the same for a finding (own use)
+-- the same for a finding
 abbrev pub SmallFinding : FindingExplained → Type 0
 SmallFinding (finding.Lines m d) = (m < 1000000) × (d .0 < conceptLimit)
 SmallFinding (finding.Refused line k) = (line < 1000000) × (k < 100)

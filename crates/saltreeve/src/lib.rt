@@ -1,22 +1,22 @@
+// What other languages call: the entry points under their C names, and nothing else.
 ghost use mathlib.Core.Path.{_≡_};
 ghost use mathlib.Core.Bool.{not};
 ghost use lib.Dec.{eqb};
-ghost use Rattle.closure.specs.Cell.{cellOf};
-ghost use Rattle.closure.specs.Cell.Cell.{Same, Under, RoleUnder, In, Link};
-ghost use Rattle.saltreeve.specs.Check.{Checks};
+ghost use Rattle.store.specs.Cell.{cellOf};
+ghost use Rattle.store.specs.Cell.Cell.{Same, Under, RoleUnder, In, Link};
 ghost use Rattle.saltreeve.specs.Code.{AddCode, FreshCode, Small, codeOf, counts};
 
-// What other languages call: the entry points under their C names, and nothing else.
+pub mod checks;
 pub mod reasons;
+pub mod rules;
 
 use closure::Answer;
-use closure::Concept;
-use closure::Counts;
-use closure::Item;
 use closure::Refusal;
-use closure::Role;
-use closure::Statement;
-use closure::Store;
+use store::Concept;
+use store::Counts;
+use store::Item;
+use store::Role;
+use store::Statement;
 
 // An answer as a signed number: the cells, or minus the number of refusal.
 fn code(a: Answer) -> i64
@@ -37,7 +37,7 @@ fn code(a: Answer) -> i64
 fn add(words: &mut [u64], n: Counts, s: Statement) -> i64
     ensures { λ r. ⌜ AddCode n (cellOf s) (now (words .entry)) (now (words .exit)) r ⌝ }
 {
-    code(Store::add(words, n, s))
+    code(closure::add(words, n, s))
 }
 
 // Makes the lent words a fresh store.
@@ -50,7 +50,7 @@ pub extern "C" fn saltreeve_fresh(
 ) -> i64
     ensures { λ r. ⌜ FreshCode (counts items concepts roles) (now (words .entry)) (now (words .exit)) r ⌝ }
 {
-    let a = Store::fresh(
+    let a = closure::fresh(
         words,
         Counts {
             items,
@@ -181,18 +181,4 @@ pub extern "C" fn saltreeve_add_link(
         },
         s,
     )
-}
-
-// Checks a sheet: writes the text that is printed for it into the lent room, or nothing if it is longer than the room.
-#[no_mangle]
-pub extern "C" fn saltreeve_check(sheet: &[u8], room: &mut [u8]) -> i64
-    ensures { λ r. ⌜ Checks (now (sheet .entry)) (now (room .entry)) (now (room .exit)) r ⌝ }
-{
-    let mut own = [0u8; 18700];
-    let n = report::page::page(sheet, &mut own);
-    if room.len() < n {
-        return -8;
-    }
-    text::write::put_all(room, 0, &own[..n]);
-    n as i64
 }

@@ -1,13 +1,13 @@
 // Why a cell is true or an item a finding, under C names.
 ghost use mathlib.Core.Path.{_≡_};
 ghost use Prim.Native.Nat.{_<_};
-ghost use Rattle.closure.specs.Cell.{cellOf};
+ghost use Rattle.store.specs.Cell.{cellOf};
 ghost use Rattle.saltreeve.specs.Why.{ExplainCode, FindingCode, Whys, SmallExplained, SmallFinding, cellOfKind, explainedCode, findingCode, refusalCode};
-use closure::Concept;
-use closure::Item;
-use closure::Role;
-use closure::Statement;
-use closure::Store;
+use store::Concept;
+use store::Item;
+use store::Role;
+use store::Statement;
+use store::Store;
 use why::Explained;
 use why::FindingExplained;
 

@@ -4,12 +4,12 @@ use Prim.Native.Nat.{ℕ, zero, suc, _+_, _-_}
 use lib.ListN.{length, drop, replicate}
 use lib.Seq.{sets}
 use Rattle.text.specs.Bytes.{place}
-use Rattle.closure.specs.Cell.{turn}
-use Rattle.closure.specs.declared.Concept.{Concept}
-use Rattle.closure.specs.declared.Item.{Item}
-use Rattle.closure.specs.declared.Role.{Role}
-use Rattle.closure.specs.declared.Statement.{Statement}
-use Rattle.closure.specs.declared.Statement.the-variants as stated
+use Rattle.store.specs.Cell.{turn}
+use Rattle.store.specs.declared.Concept.{Concept}
+use Rattle.store.specs.declared.Item.{Item}
+use Rattle.store.specs.declared.Role.{Role}
+use Rattle.store.specs.declared.Statement.{Statement}
+use Rattle.store.specs.declared.Statement.the-variants as stated
 use Rattle.rule.specs.declared.Head.{Head}
 use Rattle.rule.specs.declared.Head.the-variants as head
 use Rattle.rule.specs.declared.Node.{Node}

@@ -1,6 +1,6 @@
 ghost use mathlib.Core.Path.{_≡_};
 ghost use Prim.Native.Nat.{_+_, _≤_, _<_};
-ghost use Rattle.text.specs.Split.{partsFrom};
+ghost use Rattle.text.specs.own.Split.{partsFrom};
 ghost use Rattle.rule.specs.Form.{nodeLimit};
 ghost use Rattle.field.specs.Names.{nodesOf};
 ghost use Rattle.saying.specs.own.Nodes.{ReadsOne, Ready, WordTaken, childrenOf, fillAnd, headFields, headNodes, joining, putting, puttingAll};

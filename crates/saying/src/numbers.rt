@@ -1,14 +1,14 @@
 ghost use mathlib.Core.Path.{_≡_};
 ghost use lib.ListN.{drop};
-ghost use Rattle.text.specs.Split.{partsFrom};
+ghost use Rattle.text.specs.own.Split.{partsFrom};
 ghost use Rattle.field.specs.Words.{at as fieldOf};
 ghost use Rattle.saying.specs.Read.{conceptOf, itemOf, roleOf, roleUseOf};
 ghost use Rattle.field.specs.own.Table.{Roomy, namesOf};
-use closure::Concept;
-use closure::Item;
-use closure::Role;
 use field::Table;
 use rule::RoleUse;
+use store::Concept;
+use store::Item;
+use store::Role;
 
 // The field with the number i among those from a place of the line on, from 0.
 pub fn nth(line: &[u8], from: usize, i: usize) -> &[u8]

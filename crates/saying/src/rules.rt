@@ -1,6 +1,6 @@
 ghost use mathlib.Core.Path.{_≡_};
 ghost use lib.ListN.{length};
-ghost use Rattle.text.specs.Split.{partsFrom};
+ghost use Rattle.text.specs.own.Split.{partsFrom};
 ghost use Rattle.saying.specs.own.Nodes.{RuleReady};
 ghost use Rattle.saying.specs.Read.{bare as bareRule, blank as blankSlots, chainOf, ruleOf};
 ghost use Rattle.field.specs.own.Table.{Roomy, namesOf};

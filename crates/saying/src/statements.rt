@@ -1,11 +1,11 @@
 ghost use mathlib.Core.Path.{_≡_};
-ghost use Rattle.text.specs.Split.{partsFrom};
-ghost use Rattle.closure.specs.Cell.{turn as turned};
+ghost use Rattle.text.specs.own.Split.{partsFrom};
+ghost use Rattle.store.specs.Cell.{turn as turned};
 ghost use Rattle.saying.specs.Read.{statementOf};
 ghost use Rattle.field.specs.own.Table.{Roomy, namesOf};
-use closure::Statement;
 use field::StatementWord;
 use field::Table;
+use store::Statement;
 
 // Whether one of the two, and not both, is set.
 fn turn(a: bool, b: bool) -> bool

@@ -6,8 +6,8 @@ use Prim.Native.Nat.{ℕ, suc}
 use lib.ListN.{length}
 use Rattle.logic.specs.Number.{One}
 use Rattle.row.specs.Bit.{Words}
-use Rattle.closure.specs.declared.Statement.{Statement}
-use Rattle.closure.specs.Layout.{size, width}
+use Rattle.store.specs.declared.Statement.{Statement}
+use Rattle.store.specs.Layout.{size, width}
 use Rattle.sheet.specs.declared.Reading.{Reading}
 use Rattle.line.specs.Fault.{begun}
 use Rattle.field.specs.Names.{countsOf}

@@ -7,11 +7,11 @@ use lib.ListN.{length, getD, take, replicate}
 use Rattle.row.specs.Bit.{Words}
 use Rattle.text.specs.Bytes.{bytes}
 use Rattle.text.specs.Text.{decimal}
-use Rattle.closure.specs.declared.Counts.{Counts}
-use Rattle.closure.specs.Cell.{Cell}
-use Rattle.closure.specs.Layout.{Holds, size, width}
+use Rattle.store.specs.declared.Counts.{Counts}
+use Rattle.store.specs.Cell.{Cell}
+use Rattle.store.specs.Layout.{Holds, size, width}
 use Rattle.closure.specs.Lines.{Stated}
-use Rattle.closure.specs.Promise.{Keeps}
+use Rattle.store.specs.Keeps.{Keeps}
 use Rattle.rule.specs.declared.Finding.{Finding}
 use Rattle.rule.specs.declared.Second.{Second}
 use Rattle.rule.specs.declared.Second.the-variants as second

@@ -5,7 +5,7 @@ use Prim.Native.Nat.{ℕ, _+_}
 use lib.Dec.{leb, eqb}
 use lib.ListN.{length}
 use Rattle.text.specs.Split.{fields, lines}
-use Rattle.closure.specs.declared.Statement.{Statement}
+use Rattle.store.specs.declared.Statement.{Statement}
 use Rattle.rule.specs.declared.Rule.{Rule}
 use Rattle.field.specs.declared.Form.{Form}
 use Rattle.field.specs.declared.Form.the-variants as form

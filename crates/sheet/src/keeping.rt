@@ -1,14 +1,13 @@
 ghost use mathlib.Core.Path.{_≡_};
 ghost use lib.ListN.{length};
-ghost use Rattle.closure.specs.Cell.{With, Within, cellOf};
-ghost use Rattle.closure.specs.Layout.{ClosedStore, Fits, Holds, size, width};
-ghost use Rattle.closure.specs.Promise.{Keeps};
+ghost use Rattle.store.specs.Cell.{With, Within, cellOf};
+ghost use Rattle.store.specs.Layout.{ClosedStore, Fits, Holds, size, width};
+ghost use Rattle.store.specs.Keeps.{Keeps};
 ghost use Rattle.line.specs.Fault.{begun as begunBy};
 ghost use Rattle.sheet.specs.own.Stands.{Begins};
-use closure::Counts;
-use closure::Statement;
-use closure::Store;
 use line::Marks;
+use store::Counts;
+use store::Statement;
 
 // Whether a statement or a rule was accepted.
 fn begun(m: Marks) -> bool
@@ -28,7 +27,7 @@ pub fn begin(words: &mut [u64], counts: Counts, m: Marks)
     if begun(m) {
         return;
     }
-    Store::fresh(words, counts);
+    closure::fresh(words, counts);
 }
 
 // Adds a statement to a closed store.
@@ -36,5 +35,5 @@ pub fn state(words: &mut [u64], counts: Counts, s: Statement)
     requires { ⌜ ClosedStore width counts (now words) × Within counts (cellOf s) ⌝ }
     ensures { λ _. ⌜ Keeps width counts (With (Holds width counts (now (words .entry))) (cellOf s)) (now (words .exit)) ⌝ }
 {
-    closure::entry::apply(words, closure::entry::layout(), counts, s);
+    closure::entry::apply(words, store::size::layout(), counts, s);
 }

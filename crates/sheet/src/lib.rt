@@ -6,10 +6,10 @@ pub mod sheets;
 mod taking;
 
 ghost use Rattle.sheet.specs.Promise.{Reads};
-use closure::Counts;
 use field::Table;
 use line::Marks;
 use rule::Rule;
+use store::Counts;
 
 // What is kept of the lines read so far.
 pub struct Kept {

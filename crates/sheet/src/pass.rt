@@ -6,10 +6,10 @@ ghost use Rattle.sheet.specs.own.Pass.{Accepts, LineRule, Next, Opened, 
 ghost use Rattle.field.specs.own.Table.{Roomy, namesOf};
 ghost use Rattle.field.specs.Words.{bodyOf, formOf};
 use crate::RuleLine;
-use closure::Item;
 use field::Form;
 use field::Table;
 use rule::Head;
+use store::Item;
 
 // No rule.
 fn no_rule(line: usize, past: usize) -> RuleLine

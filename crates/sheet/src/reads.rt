@@ -3,9 +3,9 @@ ghost use mathlib.Core.Path.{_≡_};
 ghost use Rattle.sheet.specs.own.Pass.{Judges, Totalled, Wholly, countedIn};
 use crate::Reading;
 use crate::Whole;
-use closure::Store;
 use field::Table;
-use rule::Total;
+use judge::Total;
+use store::Store;
 
 // How many findings an answer counts.
 pub fn counted(t: Total) -> u64
@@ -23,13 +23,13 @@ fn count_all(sheet: &[u8], words: &[u64], t: Table) -> u64
     ensures { λ r. ⌜ Totalled (now (sheet .entry)) t (now (words .entry)) r ⌝ }
 {
     let counts = t.counts;
-    let layout = closure::entry::layout();
+    let layout = store::size::layout();
     let mut q = crate::pass::first(sheet, t);
     let mut n = 0;
     let mut total = 0;
     while q.found {
         let u = q.rule;
-        let p = rule::seek::start(words, layout, counts, n, u, 0);
+        let p = judge::seek::start(words, layout, counts, n, u, 0);
         let answer = p.answer;
         total += counted(answer);
         n += 1;

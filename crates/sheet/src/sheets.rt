@@ -1,9 +1,9 @@
 ghost use mathlib.Core.Path.{_≡_};
 ghost use Prim.Native.Nat.{_≤_};
 ghost use lib.ListN.{length};
-ghost use Rattle.text.specs.Split.{partsFrom};
+ghost use Rattle.text.specs.own.Split.{partsFrom};
 ghost use Rattle.line.specs.Fault.{sheetLimit};
-ghost use Rattle.closure.specs.Layout.{size, width};
+ghost use Rattle.store.specs.Layout.{size, width};
 ghost use Rattle.sheet.specs.Said.{nothing, outcome, outcomeFrom};
 ghost use Rattle.sheet.specs.own.Stands.{Ends, Opens, Stands, Blank};
 use crate::Ended;
@@ -57,7 +57,7 @@ fn read_all(sheet: &[u8], words: &mut [u64]) -> Ended
     requires { ⌜ (length (now sheet) ≤ sheetLimit) × (length (now words) ≡ size width) ⌝ }
     ensures { λ r. ⌜ Ends (now (sheet .entry)) (outcome (now (sheet .entry))) (now (words .exit)) r ⌝ }
 {
-    row::change::zero_all(words);
+    rewrite::change::zero_all(words);
     let kept = blank();
     let end = text::part::end_of(sheet, 0, 10);
     let why = line::lines::header_fault(text::part::part(sheet, 0, end));

@@ -5,7 +5,6 @@ use Prim.Native.Nat.{ℕ, suc, _+_}
 use Prim.Native.Char.{code}
 use Prim.Native.String as string
 use lib.Dec.{leb, eqb}
-use lib.ListN.{take, drop}
 
 -- the bytes of a text
 abbrev pub bytes : string.String → List ℕ
@@ -31,10 +30,6 @@ same [] [] = true
 same [] (b ∷ t) = false
 same (a ∷ s) [] = false
 same (a ∷ s) (b ∷ t) = cond (eqb a b) (same s t) false
-
--- so many bytes from a place on, or as many as there are
-abbrev pub partOf : List ℕ → ℕ → ℕ → List ℕ
-partOf s at count = take count (drop at s)
 
 -- the place of a word in a list of words, from 0; the length of the list where it is none of them
 unfoldable pub place : List ℕ → List (List ℕ) → ℕ

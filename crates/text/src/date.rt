@@ -3,7 +3,7 @@ ghost use Rattle.text.specs.Bytes.{lower as lowerOf};
 ghost use Rattle.text.specs.Date.{digit as digitOf, twoDigits, month as monthOf, dated, dateShaped};
 
 // A-Z as a-z.
-pub fn lower(b: u8) -> u8
+fn lower(b: u8) -> u8
     ensures { λ r. ⌜ r ≡ lowerOf b ⌝ }
 {
     if 65 <= b {
@@ -16,7 +16,7 @@ pub fn lower(b: u8) -> u8
 }
 
 // The place of the month with these first letters, from 0; 12 where there is none.
-pub fn month(a: u8, b: u8, c: u8) -> usize
+fn month(a: u8, b: u8, c: u8) -> usize
     ensures { λ r. ⌜ r ≡ monthOf a b c ⌝ }
 {
     let letters = [lower(a), lower(b), lower(c)];
@@ -37,7 +37,7 @@ pub fn digit(b: u8) -> u8
 }
 
 // The value of two digits, or 255.
-pub fn two_digits(a: u8, b: u8) -> u8
+fn two_digits(a: u8, b: u8) -> u8
     ensures { λ r. ⌜ r ≡ twoDigits a b ⌝ }
 {
     let x = digit(a);

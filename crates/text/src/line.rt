@@ -1,6 +1,6 @@
 ghost use mathlib.Core.Path.{_≡_};
 ghost use Prim.Native.Nat.{_+_};
-ghost use Rattle.text.specs.Split.{fieldAt, fieldFrom, pastField};
+ghost use Rattle.text.specs.own.Split.{fieldAt, fieldFrom, pastField};
 
 // The field at a place of a line, from its start to its end; or none any more.
 pub enum Next {
@@ -15,7 +15,7 @@ pub struct Reader<'a> {
 }
 
 // The field that starts at a place of a line.
-pub fn field_at(line: &[u8], at: usize) -> Next
+fn field_at(line: &[u8], at: usize) -> Next
     ensures { λ r. ⌜ r ≡ fieldAt (now (line .entry)) at ⌝ }
 {
     if at <= line.len() {

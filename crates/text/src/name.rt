@@ -11,7 +11,7 @@ impl Name {
 }
 
 // Whether b is at least a and at most c.
-pub fn between(a: u8, b: u8, c: u8) -> bool
+fn between(a: u8, b: u8, c: u8) -> bool
     ensures { λ r. ⌜ r ≡ betweenOf a b c ⌝ }
 {
     if a <= b {
@@ -21,7 +21,7 @@ pub fn between(a: u8, b: u8, c: u8) -> bool
 }
 
 // Whether the byte may stand in a name.
-pub fn name_byte(b: u8) -> bool
+fn name_byte(b: u8) -> bool
     ensures { λ r. ⌜ r ≡ nameByte b ⌝ }
 {
     if between(65, b, 90) {
@@ -59,7 +59,7 @@ pub fn is_name(s: &[u8]) -> bool
 }
 
 // Whether the byte may stand in a line.
-pub fn line_byte(b: u8) -> bool
+fn line_byte(b: u8) -> bool
     ensures { λ r. ⌜ r ≡ lineByte b ⌝ }
 {
     if between(32, b, 126) {

@@ -1,7 +1,8 @@
 ghost use mathlib.Core.Path.{_≡_};
 ghost use lib.ListN.{length};
-ghost use Rattle.text.specs.Bytes.{same as sameBytes, partOf, place as placeOf};
-ghost use Rattle.text.specs.Split.{endOf, split};
+ghost use Rattle.text.specs.Bytes.{same as sameBytes, place as placeOf};
+ghost use Rattle.text.specs.own.Split.{partOf, endOf};
+ghost use Rattle.text.specs.Split.{split};
 
 // Whether the bytes are the same; compared from the last one back, as names that are alike mostly differ at their end.
 pub fn same(a: &[u8], b: &[u8]) -> bool

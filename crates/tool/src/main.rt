@@ -1,6 +1,7 @@
 // The program behind ./saltreeve: `tool why FILE` prints the findings of a sheet with their reasons, `tool why FILE QUESTION` the answer to a question.
 use libc::STDERR_FILENO;
 use libc::STDOUT_FILENO;
+use report::Report;
 
 // Says on standard error what went wrong.
 fn complain(text: &[u8]) {
@@ -64,7 +65,7 @@ fn print_lines(sheet: &[u8], lines: &[u8]) {
 
 // Prints the findings of a sheet, each with its reason below it where it has one, and their total.
 fn print_all(sheet: &[u8]) {
-    let mut room = [0u8; 18700];
+    let mut room = [0u8; Report::BYTES];
     let n = report::page::page(sheet, &mut room);
     print_lines(sheet, text::part::part(&room, 0, n));
 }

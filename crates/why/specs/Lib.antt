@@ -1,12 +1,9 @@
--- Why a cell is true: lines of a sheet from which it follows, and from no part of them. Definitions here; what is proved of them in laws.
+-- Why a cell is true: lines of a sheet from which it follows, and from no part of them. Definitions here; what is proved of them in laws, what only the code speaks of in own.
 pub mod Reason
 pub mod Listed
+pub mod Rising
 pub mod Promise
 pub mod Finding
-pub mod Rising
-pub mod Stating
-pub mod Asked
-pub mod Gather
-pub mod Writing
-pub mod Sides
+pub mod Settled
+pub mod own
 pub mod laws

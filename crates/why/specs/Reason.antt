@@ -1,7 +1,7 @@
 -- The reason for a cell: statement lines of a sheet from which it follows, and from no part of them with a line taken out.
 use mathlib.Core.List.{List}
-use Rattle.closure.specs.declared.Counts.{Counts}
-use Rattle.closure.specs.Cell.{Cell, Follows}
+use Rattle.store.specs.declared.Counts.{Counts}
+use Rattle.store.specs.Cell.{Cell, Follows}
 use Rattle.closure.specs.Lines.{Stated}
 use Rattle.sheet.specs.Said.{SheetStatement, statementsOf}
 use Rattle.reason.specs.Part.{Minimal}

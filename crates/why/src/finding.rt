@@ -3,21 +3,21 @@ ghost use mathlib.Core.Path.{_≡_};
 ghost use mathlib.Core.Bool.{false};
 ghost use Rattle.sheet.specs.own.Pass.{Accepts, Judges};
 ghost use Rattle.field.specs.own.Table.{Roomy};
-ghost use Rattle.why.specs.Asked.{Of};
+ghost use Rattle.why.specs.own.Asked.{Of};
 ghost use Rattle.why.specs.Finding.{ExplainsFinding};
-ghost use Rattle.why.specs.Sides.{Breaking, NodeIs, RuleFound, SidesAre};
+ghost use Rattle.why.specs.own.Sides.{Breaking, NodeIs, RuleFound, SidesAre};
 use crate::FindingExplained;
 use crate::NodeName;
 use crate::Sides;
-use closure::Concept;
-use closure::Item;
-use closure::Statement;
-use closure::Store;
 use field::Table;
 use rule::Head;
 use rule::Node;
 use rule::Rule;
 use sheet::RuleLine;
+use store::Concept;
+use store::Item;
+use store::Statement;
+use store::Store;
 
 // No name.
 fn no_name() -> NodeName
@@ -131,13 +131,13 @@ pub fn broken(sheet: &[u8], t: Table, words: &[u64], k: usize, a: usize) -> Side
         return no_sides();
     }
     let counts = t.counts;
-    let at = closure::entry::layout();
+    let at = store::size::layout();
     let left = Statement::In(Item(a), Concept(s.left));
-    if !closure::look::told(words, at, counts, left) {
+    if !store::look::told(words, at, counts, left) {
         return no_sides();
     }
     let right = Statement::In(Item(a), Concept(s.right));
-    if closure::look::told(words, at, counts, right) {
+    if store::look::told(words, at, counts, right) {
         return no_sides();
     }
     s

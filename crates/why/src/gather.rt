@@ -1,16 +1,16 @@
 // The statements of a sheet as numbers, and a reason among them. What is public here is a part with a `requires`, not an entry point.
 ghost use mathlib.Core.Path.{_≡_};
 ghost use lib.ListN.{length};
-ghost use Rattle.closure.specs.Cell.{cellOf};
+ghost use Rattle.store.specs.Cell.{cellOf};
 ghost use Rattle.sheet.specs.own.Pass.{Accepts};
 ghost use Rattle.field.specs.own.Table.{Roomy};
-ghost use Rattle.reason.specs.Picked.{markWords};
-ghost use Rattle.reason.specs.Promise.{Clear};
-ghost use Rattle.why.specs.Asked.{Asked, ReasonMarked};
-ghost use Rattle.why.specs.Gather.{Gathered, statementLimit};
-use closure::Statement;
+ghost use Rattle.reason.specs.own.Picked.{markWords};
+ghost use Rattle.reason.specs.own.Promise.{Clear};
+ghost use Rattle.why.specs.own.Asked.{Asked, ReasonMarked};
+ghost use Rattle.why.specs.own.Gather.{Gathered, statementLimit};
 use field::Table;
 use reason::Lines;
+use store::Statement;
 
 // Keeps the statements of an accepted sheet as numbers; says how many they are.
 fn gather(sheet: &[u8], t: Table, codes: &mut [u32; Lines::MOST]) -> usize

@@ -1,20 +1,20 @@
 // Why a cell is true: statement lines of a sheet from which it follows, and from no part of them with a line taken out.
 pub mod finding;
 pub mod gather;
-pub mod stating;
+mod stating;
 
 ghost use Prim.Native.Nat.{_≤_};
-ghost use Rattle.closure.specs.Cell.{cellOf};
+ghost use Rattle.store.specs.Cell.{cellOf};
 ghost use Rattle.sheet.specs.own.Pass.{Accepts};
 ghost use Rattle.field.specs.own.Table.{Roomy};
-ghost use Rattle.why.specs.Asked.{Asked};
+ghost use Rattle.why.specs.own.Asked.{Asked};
 ghost use Rattle.why.specs.Promise.{Explains};
-ghost use Rattle.why.specs.Writing.{Answered, Lists, PutIf};
-use closure::Concept;
-use closure::Statement;
-use closure::Store;
+ghost use Rattle.why.specs.own.Writing.{Answered, Lists, PutIf};
 use field::Table;
 use reason::Lines;
+use store::Concept;
+use store::Statement;
+use store::Store;
 
 // The next statement of a sheet: whether there is one, the number of its line, the place past that line, and the statement.
 pub struct StatementLine {
@@ -109,7 +109,7 @@ pub fn explain(sheet: &[u8], words: &mut [u64], cell: Statement, room: &mut [u32
     let kept = e.kept;
     let t = kept.table;
     let counts = t.counts;
-    if !closure::look::told(words, closure::entry::layout(), counts, cell) {
+    if !store::look::told(words, store::size::layout(), counts, cell) {
         return Explained::Refused(0, 24);
     }
     Explained::Lines(list(sheet, t, cell, room))

@@ -7,9 +7,10 @@ use native.Mathlib.Decide.{decLt}
 use native.Mathlib.Omega.{arith}
 use borrow.Author.Tests.{eq-eqb, ne-eqb}
 use lib.ListN.{length, getD, length-append}
-use Rattle.closure.specs.declared.Counts.{Counts}
-use Rattle.text.specs.Bytes.{bytes, partOf, same}
-use Rattle.text.specs.Split.{fieldFrom, fields, partsFrom, pastField}
+use Rattle.store.specs.declared.Counts.{Counts}
+use Rattle.text.specs.Bytes.{bytes, same}
+use Rattle.text.specs.own.Split.{partOf, fieldFrom, partsFrom, pastField}
+use Rattle.text.specs.Split.{fields}
 use Rattle.text.specs.Text.{decimal}
 use Rattle.text.specs.laws.Bytes.{same-all, same-true}
 use Rattle.text.specs.laws.Split.{fields-next, fields-none, parts-all}
@@ -29,11 +30,11 @@ use Rattle.sheet.specs.own.Pass.{foundRule}
 use Rattle.sheet.specs.laws.Count.{Turn, turn-rules}
 use Rattle.why.specs.declared.Sides.{Sides}
 use Rattle.why.specs.Finding.{BrokenSub}
-use Rattle.why.specs.Sides.{BrokenIf}
-use Rattle.report.specs.Lines.{lineOf}
+use Rattle.why.specs.own.Sides.{BrokenIf}
+use Rattle.report.specs.Promise.{lineOf}
 use Rattle.answer.specs.declared.CellAsked.{CellAsked}
 use Rattle.answer.specs.declared.FindingAsked.{FindingAsked}
-use Rattle.answer.specs.Asked.{Asking, BreakingIf, BrokenIn, FindingIf, FindingIn, FormAsked, SidesIf}
+use Rattle.answer.specs.own.Asked.{Asking, BreakingIf, BrokenIn, FindingIf, FindingIn, FormAsked, SidesIf}
 use Rattle.answer.specs.Question.{aboutFinding, amongStatements, bare}
 
 -- a line with nothing wrong with it asks for the cell that it states, if it is a statement

@@ -6,14 +6,14 @@ use Prim.Native.Nat.{ℕ, suc, _≤_, _<_}
 use native.Mathlib.Omega.{arith}
 use lib.ListN.{length}
 use borrow.Author.Tests.{ne-eqb}
-use Rattle.row.specs.Row.{rowHasb}
+use Rattle.row.specs.own.Row.{rowHasb}
 use Rattle.text.specs.Split.{fields}
 use Rattle.text.specs.Text.{Wrote}
 use Rattle.text.specs.laws.Text.{wrote-whole}
-use Rattle.closure.specs.declared.Counts.{Counts}
-use Rattle.closure.specs.Cell.{Cell, cellOf}
-use Rattle.closure.specs.Cell.Cell.{In}
-use Rattle.closure.specs.Layout.{ClosedStore, Holds, width}
+use Rattle.store.specs.declared.Counts.{Counts}
+use Rattle.store.specs.Cell.{Cell, cellOf}
+use Rattle.store.specs.Cell.Cell.{In}
+use Rattle.store.specs.Layout.{ClosedStore, Holds, width}
 use Rattle.sheet.specs.declared.Ended.{Ended}
 use Rattle.field.specs.declared.Form.the-variants as form
 use Rattle.field.specs.declared.StatementWord.{StatementWord}
@@ -25,28 +25,27 @@ use Rattle.sheet.specs.Said.{Said, SheetStatement, outcome}
 use Rattle.saying.specs.Read.{statementOf}
 use Rattle.sheet.specs.Said.Outcome.{accepted}
 use Rattle.sheet.specs.own.Stands.{Opens}
-use Rattle.field.specs.own.Table.{namesOf}
+use Rattle.field.specs.own.Table.{namesOf, Places}
 use Rattle.field.specs.Words.{bodyOf}
 use Rattle.sheet.specs.laws.Count.{opens-held, opens-outcome}
 use Rattle.sheet.specs.laws.Pass.{saidOf}
-use Rattle.sheet.specs.laws.Stands.{Places}
-use Rattle.reason.specs.Picked.{picked, pickedFrom}
-use Rattle.why.specs.Asked.{Asked}
+use Rattle.reason.specs.own.Picked.{picked, pickedFrom}
+use Rattle.why.specs.own.Asked.{Asked}
 use Rattle.why.specs.Listed.{linesOf}
 use Rattle.why.specs.Reason.{FollowsFrom, Reason}
 use Rattle.why.specs.laws.Explained.{opens-counts}
 use Rattle.why.specs.laws.Few.{statements-few}
 use Rattle.why.specs.laws.Finding.{broken-in}
-use Rattle.report.specs.Lines.{lineOf}
+use Rattle.report.specs.Promise.{lineOf}
 use Rattle.answer.specs.declared.Absent.{Absent}
 use Rattle.answer.specs.declared.CellAsked.{CellAsked}
 use Rattle.answer.specs.declared.FindingAsked.{FindingAsked}
-use Rattle.answer.specs.Asked.{Asking, FindingIf, FindingIn}
+use Rattle.answer.specs.own.Asked.{Asking, FindingIf, FindingIn}
 use Rattle.answer.specs.Promise.{Fitted, Replies}
 use Rattle.answer.specs.Promise.Answers.{not-true, found, not-broken, broken, refused}
 use Rattle.answer.specs.Question.{AsksCell, AsksFinding, aboutFinding, bare}
 use Rattle.answer.specs.Text.{absentText, reasonText}
-use Rattle.answer.specs.Writing.{Accepted, CellReply, FindingReply, Known, ReasonFits, ReasonSaid, absentIf}
+use Rattle.answer.specs.own.Writing.{Accepted, CellReply, FindingReply, Known, ReasonFits, ReasonSaid, absentIf}
 
 -- ---- the room
 

@@ -6,17 +6,18 @@ use Prim.Native.Nat.{ℕ, _+_, _-_, _*_, _≤_, _<_, zero-le}
 use native.Mathlib.Omega.{arith}
 use lib.ListN.{length, getD, drop, length-append, length-map, length-take}
 use lib.Seq.{drop-drop, getD-drop}
-use Rattle.row.specs.Row.{rowHasb}
-use Rattle.reason.specs.Picked.{picked, pickedFrom}
+use Rattle.row.specs.own.Row.{rowHasb}
+use Rattle.reason.specs.own.Picked.{picked, pickedFrom}
 use Rattle.reason.specs.laws.Picked.{picked-more}
-use Rattle.text.specs.Bytes.{partOf, place, same}
-use Rattle.text.specs.Split.{endOf, fields, lines, partsFrom, split}
+use Rattle.text.specs.own.Split.{partOf, endOf, partsFrom}
+use Rattle.text.specs.Bytes.{place, same}
+use Rattle.text.specs.Split.{fields, lines, split}
 use Rattle.text.specs.Text.{Wrote}
 use Rattle.text.specs.laws.Split.{end-le, parts-all, parts-next, parts-none}
 use Rattle.text.specs.laws.Text.{wrote-none, wrote-then}
 use Rattle.field.specs.declared.Form.{Form}
 use Rattle.field.specs.declared.Form.the-variants as form
-use Rattle.line.specs.Fault.{none, sheetLimit}
+use Rattle.line.specs.Fault.{sheetLimit}
 use Rattle.sheet.specs.Said.{Outcome, Said, SheetStatement, lineSaid, nothing, outcome, outcomeFrom, saying}
 use Rattle.sheet.specs.Said.Outcome.{accepted}
 use Rattle.field.specs.Words.{Field, bodyOf, formOf, lineForm}
@@ -25,7 +26,7 @@ use Rattle.why.specs.Listed.{linesOf}
 use Rattle.why.specs.laws.Listed.{lines-more}
 use Rattle.answer.specs.declared.Printed.{Printed}
 use Rattle.answer.specs.Text.{linesText, numberedText}
-use Rattle.answer.specs.Writing.{Accepted, PutIf, statementForm}
+use Rattle.answer.specs.own.Writing.{Accepted, PutIf, statementForm}
 
 -- ---- one line
 

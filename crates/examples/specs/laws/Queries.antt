@@ -2,8 +2,8 @@
 use mathlib.Core.Path.{_≡_, ap, ap₂, _∙_}
 use mathlib.Core.List.{List}
 use Prim.Native.Nat.{ℕ, _+_}
-use Rattle.closure.specs.declared.Counts.{Counts}
-use Rattle.closure.specs.Layout.{width}
+use Rattle.store.specs.declared.Counts.{Counts}
+use Rattle.store.specs.Layout.{width}
 use Rattle.rule.specs.declared.Rule.{Rule}
 use Rattle.query.specs.declared.Outcome.the-variants.{Compiled}
 use Rattle.query.specs.Length.{lengthOf, headLength}

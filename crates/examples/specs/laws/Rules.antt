@@ -10,16 +10,16 @@ use Rattle.logic.specs.Number.{One, Number}
 use Rattle.logic.specs.Number.One.{first, later}
 use Rattle.logic.specs.Number.Distinct.{none as distinct-none, more as distinct-more}
 use Rattle.logic.specs.laws.Number.{one-cases, one-none, number-unique, number-none}
-use Rattle.closure.specs.declared.Counts.{Counts}
-use Rattle.closure.specs.declared.Statement.{Statement}
-use Rattle.closure.specs.Cell.{Cell, Obeys, cellOf, turn}
-use Rattle.closure.specs.Cell.Cell.{Same, Under, RoleUnder, In, Link}
-use Rattle.closure.specs.Cell.Follows.{given}
-use Rattle.closure.specs.Layout.{Holds, width}
-use Rattle.closure.specs.Promise.{Keeps}
+use Rattle.store.specs.declared.Counts.{Counts}
+use Rattle.store.specs.declared.Statement.{Statement}
+use Rattle.store.specs.Cell.{Cell, Obeys, cellOf, turn, DeclaredItem}
+use Rattle.store.specs.Cell.Cell.{Same, Under, RoleUnder, In, Link}
+use Rattle.store.specs.Cell.Follows.{given}
+use Rattle.store.specs.Layout.{Holds, width}
+use Rattle.store.specs.Keeps.{Keeps}
 use Rattle.closure.specs.Lines.{Stated}
 use Rattle.closure.specs.Lines.Stated.{stated}
-use Rattle.closure.specs.laws.Least.{least}
+use Rattle.store.specs.laws.Least.{least}
 use Rattle.rule.specs.declared.Finding.{Finding}
 use Rattle.rule.specs.declared.Rule.{Rule}
 use Rattle.rule.specs.declared.Second.{Second}
@@ -36,7 +36,7 @@ use Rattle.examples.specs.Examples.{IsRef, IsAtLeast, threeItems, twoLin
 
 module _ (n : Counts) (s : List ℕ) (u : Rule) (r : IsRef u) where
   -- a place where `ref` is broken is a declared item alone
-  ref-breaks : (x : ℕ) (t : Second) → Breaks (Holds width n s) n u x t → (x < n .items) × (t ≡ second.None)
+  ref-breaks : (x : ℕ) (t : Second) → Breaks (Holds width n s) n u x t → DeclaredItem n x × (t ≡ second.None)
   ref-breaks x second.None b = (b .0, refl)
   ref-breaks x (second.Item y) b = absurd (rw (r .head) at (b .2))
 

@@ -2,27 +2,27 @@
 use mathlib.Core.Path.{_≡_, refl, sym, ap, subst}
 use mathlib.Core.Logic.{⊎-elim}
 use mathlib.Core.List.{List, [], _∷_}
-use Prim.Native.Nat.{ℕ, zero, suc, _<_, _≤_}
+use Prim.Native.Nat.{ℕ, zero, suc, _<_}
 use native.Mathlib.Omega.{arith}
-use lib.ListN.{length}
-use Rattle.logic.specs.Number.{One, Distinct, Number}
+use Rattle.logic.specs.Number.{One, Number}
 use Rattle.logic.specs.Number.One.{first, later}
 use Rattle.logic.specs.Number.Distinct.{none, more}
 use Rattle.logic.specs.laws.Lowest.{lowest-none}
 use Rattle.logic.specs.laws.Number.{number-none, number-unique, one-cases, one-none}
 use Rattle.row.specs.Bit.{Words}
-use Rattle.closure.specs.declared.Counts.{Counts}
+use Rattle.store.specs.declared.Counts.{Counts}
 use Rattle.closure.specs.declared.Answer.{Answer}
 use Rattle.closure.specs.declared.Answer.the-variants.{Cells}
-use Rattle.closure.specs.Cell.{Cell, Nothing, With, Within, Follows}
-use Rattle.closure.specs.Cell.Cell.{Same, Under, RoleUnder, In, Link}
-use Rattle.closure.specs.Cell.Follows.{given, same-sym}
-use Rattle.closure.specs.Cell.With.{old, new}
-use Rattle.closure.specs.Layout.{ClosedStore, Holds, width}
-use Rattle.closure.specs.Promise.{Keeps, Adds, NewlyTrue}
+use Rattle.store.specs.Cell.{Cell, Nothing, With, Follows, DeclaredItem}
+use Rattle.store.specs.Cell.Cell.{Same, Under, RoleUnder, In, Link}
+use Rattle.store.specs.Cell.Follows.{given, same-sym}
+use Rattle.store.specs.Cell.With.{old, new}
+use Rattle.store.specs.Layout.{ClosedStore, Holds, width}
+use Rattle.store.specs.Keeps.{Keeps, NewlyTrue}
+use Rattle.closure.specs.Promise.{Adds}
 use Rattle.closure.specs.Promise.Adds.{refused, added}
-use Rattle.closure.specs.laws.Least.{exact, closed-has, follows-all}
-use Rattle.closure.specs.laws.Reflexive.{fresh-exact}
+use Rattle.store.specs.laws.Least.{exact, closed-has, follows-all}
+use Rattle.store.specs.laws.Reflexive.{fresh-exact}
 use Rattle.closure.specs.laws.Refusals.{adds-unique, add-none}
 use Rattle.examples.specs.Examples.{twoItems}
 
@@ -37,7 +37,7 @@ adds-nothing {n} {c} {s} k h = added (add-none (record { long = k .long; fits = 
     keeps : Keeps width n (With (Holds width n s) c) s
     keeps = record { store = k; sound = λ d x. given (old x); whole = λ d x. closed-has (k .closed) (follows-all only x) }
 
-pub same-itself : {n : Counts} {s t : List ℕ} {a : ℕ} {r : Answer} → a < n .items → Words 64 s → Words 64 t → Keeps width n Nothing s → Adds width n (Same a a) s t r → r ≡ Cells 0
+pub same-itself : {n : Counts} {s t : List ℕ} {a : ℕ} {r : Answer} → DeclaredItem n a → Words 64 s → Words 64 t → Keeps width n Nothing s → Adds width n (Same a a) s t r → r ≡ Cells 0
 same-itself h ws wt k x = adds-unique wt ws x (adds-nothing (k .store) (k .store .closed .obeys .same-refl h)) .1
 
 -- the two cells that are new

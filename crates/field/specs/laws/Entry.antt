@@ -6,9 +6,8 @@ use Prim.Native.Nat.{ℕ, zero, suc, _+_, _-_, _*_, _/_, _%_, _≤_, _<_}
 use native.Mathlib.Omega.{arith}
 use lib.ListN.{length, take, drop, length-drop}
 use lib.Seq.{drop-drop, length-take-le, take-nil, take-take}
-use Rattle.text.specs.Bytes.{partOf}
+use Rattle.text.specs.own.Split.{partOf, endOf, fieldFrom}
 use Rattle.text.specs.Name.{isName}
-use Rattle.text.specs.Split.{endOf, fieldFrom}
 use Rattle.text.specs.laws.Choice.{le-cases}
 use Rattle.text.specs.laws.Name.{name-bounds}
 use Rattle.text.specs.laws.Split.{end-ge, end-le, field-here, field-none}

@@ -8,10 +8,11 @@ use borrow.Author.Tests.{eq-eqb, ne-eqb}
 use lib.Dec.{leb, ltb}
 use lib.ListN.{length, getD, drop, length-map, length-drop, List·getD-eq-default}
 use lib.Seq.{length-take-le, take-all}
-use Rattle.text.specs.Bytes.{partOf, place}
+use Rattle.text.specs.own.Split.{partOf}
+use Rattle.text.specs.Bytes.{place}
 use Rattle.text.specs.Date.{digit, dateShaped}
 use Rattle.text.specs.Name.{isName}
-use Rattle.closure.specs.Layout.{conceptLimit, roleLimit, itemLimit, width}
+use Rattle.store.specs.Layout.{conceptLimit, roleLimit, itemLimit, width}
 use Rattle.rule.specs.Form.{countLimit}
 use Rattle.field.specs.declared.Due.the-variants as due
 use Rattle.field.specs.Names.{Names, reserved, inverted, plain, countOf, isCount, fault, newFault, nameFault, fieldFault, lowerFault}

@@ -10,7 +10,7 @@ use lib.ListN.{length, drop}
 use Rattle.text.specs.Bytes.{place}
 use Rattle.text.specs.Date.{dateShaped}
 use Rattle.text.specs.Name.{isName}
-use Rattle.closure.specs.Layout.{conceptLimit, itemLimit, roleLimit, width}
+use Rattle.store.specs.Layout.{conceptLimit, itemLimit, roleLimit, width}
 use Rattle.field.specs.declared.Due.{Due}
 use Rattle.field.specs.declared.Due.the-variants as due
 use Rattle.field.specs.Due.{fits, isExpr}

@@ -8,7 +8,8 @@ use borrow.Author.Tests.{ltb-true}
 use lib.Dec.{ltb}
 use lib.ListN.{length, getD, length-drop, List·getD-eq-default}
 use Rattle.text.specs.Bytes.{place, same}
-use Rattle.text.specs.Split.{fields, partsFrom, fieldFrom, pastField, split, words}
+use Rattle.text.specs.Split.{fields, split, words}
+use Rattle.text.specs.own.Split.{partsFrom, fieldFrom, pastField}
 use Rattle.text.specs.laws.Choice.{le-cases}
 use Rattle.text.specs.laws.Split.{parts-all, fields-next, fields-none, past-none}
 use Rattle.field.specs.declared.Form.the-variants as form

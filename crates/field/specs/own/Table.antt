@@ -5,8 +5,9 @@ use mathlib.Core.List.{List, [], map}
 use Prim.Native.Nat.{ℕ, _+_, _-_, _*_, _/_, _%_}
 use lib.Dec.{eqb}
 use lib.ListN.{length, getD, take, set}
-use Rattle.text.specs.Bytes.{partOf, place as placeOf}
-use Rattle.closure.specs.Layout.{Fits, width}
+use Rattle.text.specs.own.Split.{partOf}
+use Rattle.text.specs.Bytes.{place as placeOf}
+use Rattle.store.specs.Layout.{Fits, width, conceptLimit, roleLimit, itemLimit}
 use Rattle.field.specs.declared.Table.{Table}
 use Rattle.field.specs.Names.{Names}
 
@@ -88,3 +89,9 @@ pub record Placed (w : List ℕ) (names : List (List ℕ)) (n k : ℕ) : Type 0 
 -- a table with no more names than there is room for
 abbrev pub Roomy : Table → Type 0
 Roomy t = Fits width (t .counts)
+
+-- the entries of a table have their places
+pub record Places (t : Table) : Type 0 where
+  pub concepts : length (t .concepts) ≡ conceptLimit
+  pub roles : length (t .roles) ≡ roleLimit
+  pub items : length (t .items) ≡ itemLimit width

@@ -39,31 +39,31 @@ use denote.Triple.Spec.{Meets, tripleOf}
 use denote.Triple.Table.{entered, cited}
 use denote.Triple.Walked.{says, Stays, gave-slice, stay-none, stay-none-slice, walkOf, AllGo, goes-gave-slice, goes-none, goes-none-slice, Walks, ends-at, walked, walk-meets}
 use denote.Exit.{yes}
-use Rattle.closure.specs.declared.Counts.{Counts}
-use Rattle.closure.proofs.Counts as N
-use Rattle.closure.proofs.Counts.Laws as N′
+use Rattle.store.specs.declared.Counts.{Counts}
+use Rattle.store.proofs.Counts as N
+use Rattle.store.proofs.Counts.Laws as N′
 use Rattle.rule.specs.declared.Rule.{Rule}
 use Rattle.rule.specs.declared.Finding.{Finding}
-use Rattle.rule.specs.declared.Search.{Search}
-use Rattle.rule.specs.declared.Prepared.{Prepared}
-use Rattle.rule.specs.declared.Total.{Total}
-use Rattle.rule.specs.Search.{Met, Prepares, Ready}
+use Rattle.judge.specs.declared.Search.{Search}
+use Rattle.judge.specs.declared.Prepared.{Prepared}
+use Rattle.judge.specs.declared.Total.{Total}
+use Rattle.judge.specs.own.Search.{Met, Prepares, Ready}
 use Rattle.rule.proofs.Rule as R
 use Rattle.rule.proofs.Rule.Laws as R′
 use Rattle.rule.proofs.Finding as T
-use Rattle.rule.proofs.Search as U
-use Rattle.rule.proofs.Search.Laws as U′
-use Rattle.rule.proofs.Prepared as Q
-use Rattle.rule.proofs.Prepared.Laws as Q′
-use Rattle.rule.proofs.Total as E
-use Rattle.rule.proofs.Total.Laws as E′
-use Rattle.rule.proofs.seek.prepare as pr
-use Rattle.rule.proofs.seek.prepare.Symbol as pr-def
-use Rattle.rule.proofs.seek.prepare.Symbol.{name as #rule·seek·prepare}
-use Rattle.rule.proofs.seek.prepare.Met as pr-thm
-use Rattle.closure.specs.Layout.{width}
-use Rattle.rule.specs.Promise.{Lists}
-use Rattle.listing.specs.Listing.{Written}
+use Rattle.judge.proofs.Search as U
+use Rattle.judge.proofs.Search.Laws as U′
+use Rattle.judge.proofs.Prepared as Q
+use Rattle.judge.proofs.Prepared.Laws as Q′
+use Rattle.judge.proofs.Total as E
+use Rattle.judge.proofs.Total.Laws as E′
+use Rattle.judge.proofs.seek.prepare as pr
+use Rattle.judge.proofs.seek.prepare.Symbol as pr-def
+use Rattle.judge.proofs.seek.prepare.Symbol.{name as #rule·seek·prepare}
+use Rattle.judge.proofs.seek.prepare.Met as pr-thm
+use Rattle.store.specs.Layout.{width}
+use Rattle.judge.specs.Promise.{Lists}
+use Rattle.listing.specs.own.Listing.{Written}
 use Rattle.listing.specs.laws.Lists.{lists-by}
 use Rattle.listing.proofs.write as wr
 use Rattle.listing.proofs.write.Symbol as wr-def
@@ -297,5 +297,5 @@ findings-spec 𝓤 H 𝓜 𝓖 𝓡 =
     entered 𝓤 H (tripleOf 𝓤 H (𝓖 .A) fi.signature (fi.spec 𝓤 H (𝓖 .A) (𝓜 .mem) (𝓡 .run)))
     (tables 𝓤 H 𝓜 𝓡 code.env .C) (tables 𝓤 H 𝓜 𝓡 code.env .Λ) #listing·findings code.function (code.unfolded 𝓤 H 𝓜 𝓡)
     (findings-meets 𝓤 H (𝓖 .A) (givenOf 𝓤 H 𝓜 𝓖) (𝓜 .mem) (𝓡 .run) (tablesOf 𝓤 H 𝓜 (tables 𝓤 H 𝓜 𝓡 code.env))
-    (cited 𝓤 H (Prepare 𝓤 H (𝓖 .A) (𝓜 .mem) (𝓡 .run)) 𝓜 𝓡 code.env #rule·seek·prepare pr-def.routine code.calls-rule·seek·prepare (pr-thm.met 𝓤 H 𝓜 𝓖 𝓡))
+    (cited 𝓤 H (Prepare 𝓤 H (𝓖 .A) (𝓜 .mem) (𝓡 .run)) 𝓜 𝓡 code.env #rule·seek·prepare pr-def.routine code.calls-judge·seek·prepare (pr-thm.met 𝓤 H 𝓜 𝓖 𝓡))
     (cited 𝓤 H (Write 𝓤 H (𝓖 .A) (𝓜 .mem) (𝓡 .run)) 𝓜 𝓡 code.env #listing·write wr-def.routine code.calls-listing·write (wr-thm.met 𝓤 H 𝓜 𝓖 𝓡)))

@@ -48,9 +48,9 @@ use Rattle.sheet.proofs.Reading as E
 use Rattle.sheet.proofs.Reading.Laws as E′
 use Rattle.listing.specs.declared.Opening.{Opening}
 use Rattle.listing.specs.declared.Trail.{Trail}
-use Rattle.listing.specs.Listing.{Written}
+use Rattle.listing.specs.own.Listing.{Written}
 use Rattle.listing.specs.Promise.{ReadsInto}
-use Rattle.listing.specs.Trail.{Going, Opens, Went}
+use Rattle.listing.specs.own.Trail.{Going, Opens, Went}
 use Rattle.listing.specs.laws.Reads.{reads-by}
 use Rattle.listing.proofs.Again.{LentAgain, comes-back, lends-again, shares}
 use Rattle.listing.proofs.Trail as U

@@ -50,19 +50,19 @@ use denote.Triple.Spec.{Meets, tripleOf}
 use denote.Triple.Table.{entered, cited}
 use denote.Triple.Walked.{says, needs, Stays, stay-slice, stay-none, stay-none-slice, walkOf, AllGo, goes-slice, goes-none, goes-none-slice, Walks, ends-at, walked, walk-meets}
 use denote.Exit.{yes}
-use Rattle.rule.specs.Search.{Met, Ready, Stepped}
-use Rattle.listing.specs.Listing.{WroteTo, Written}
+use Rattle.judge.specs.own.Search.{Met, Ready, Stepped}
+use Rattle.listing.specs.own.Listing.{WroteTo, Written}
 use Rattle.listing.specs.laws.Written.{wrote-start, wrote-more, wrote-length}
 use Rattle.rule.specs.declared.Finding.{Finding}
-use Rattle.rule.specs.declared.Search.{Search}
+use Rattle.judge.specs.declared.Search.{Search}
 use Rattle.rule.proofs.Finding as T
 use Rattle.rule.proofs.Finding.Laws as T′
-use Rattle.rule.proofs.Search as U
-use Rattle.rule.proofs.Search.Laws as U′
-use Rattle.rule.proofs.seek.step as st
-use Rattle.rule.proofs.seek.step.Symbol as st-def
-use Rattle.rule.proofs.seek.step.Symbol.{name as #rule·seek·step}
-use Rattle.rule.proofs.seek.step.Met as st-thm
+use Rattle.judge.proofs.Search as U
+use Rattle.judge.proofs.Search.Laws as U′
+use Rattle.judge.proofs.seek.step as st
+use Rattle.judge.proofs.seek.step.Symbol as st-def
+use Rattle.judge.proofs.seek.step.Symbol.{name as #rule·seek·step}
+use Rattle.judge.proofs.seek.step.Met as st-thm
 use Rattle.listing.proofs.write.Key.{name as #listing·write}
 use Rattle.listing.proofs.write as wr
 use Rattle.listing.proofs.write.Statement as stated
@@ -343,4 +343,4 @@ write-spec 𝓤 H 𝓜 𝓖 𝓡 =
     entered 𝓤 H (tripleOf 𝓤 H (𝓖 .A) wr.signature (wr.spec 𝓤 H (𝓖 .A) (𝓜 .mem) (𝓡 .run)))
     (tables 𝓤 H 𝓜 𝓡 code.env .C) (tables 𝓤 H 𝓜 𝓡 code.env .Λ) #listing·write code.function (code.unfolded 𝓤 H 𝓜 𝓡)
     (write-meets 𝓤 H (𝓖 .A) (givenOf 𝓤 H 𝓜 𝓖) (𝓜 .mem) (𝓡 .run) (tablesOf 𝓤 H 𝓜 (tables 𝓤 H 𝓜 𝓡 code.env))
-    (cited 𝓤 H (Step 𝓤 H (𝓖 .A) (𝓜 .mem) (𝓡 .run)) 𝓜 𝓡 code.env #rule·seek·step st-def.routine code.calls-rule·seek·step (st-thm.met 𝓤 H 𝓜 𝓖 𝓡)))
+    (cited 𝓤 H (Step 𝓤 H (𝓖 .A) (𝓜 .mem) (𝓡 .run)) 𝓜 𝓡 code.env #rule·seek·step st-def.routine code.calls-judge·seek·step (st-thm.met 𝓤 H 𝓜 𝓖 𝓡)))

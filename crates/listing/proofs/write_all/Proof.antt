@@ -50,8 +50,8 @@ use denote.Triple.Spec.{Meets, tripleOf}
 use denote.Triple.Table.{entered, cited}
 use denote.Triple.Walked.{says, needs, Stays, stay-slice, stay-none, stay-none-slice, walkOf, AllGo, goes-slice, goes-none, goes-none-slice, Walks, ends-at, walked, walk-meets}
 use denote.Exit.{yes}
-use Rattle.listing.specs.Trail.{Going, Steps, Went}
-use Rattle.listing.specs.Listing.{WroteTo, Written}
+use Rattle.listing.specs.own.Trail.{Going, Steps, Went}
+use Rattle.listing.specs.own.Listing.{WroteTo, Written}
 use Rattle.listing.specs.laws.Written.{wrote-start, wrote-more, wrote-length}
 use Rattle.rule.specs.declared.Finding.{Finding}
 use Rattle.listing.specs.declared.Trail.{Trail}

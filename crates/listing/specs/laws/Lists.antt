@@ -4,18 +4,18 @@ use mathlib.Core.List.{List, _++_}
 use Prim.Native.Nat.{ℕ}
 use native.Mathlib.Omega.{arith}
 use lib.ListN.{length, take, drop}
-use Rattle.closure.specs.declared.Counts.{Counts}
-use Rattle.closure.specs.Layout.{width}
+use Rattle.store.specs.declared.Counts.{Counts}
+use Rattle.store.specs.Layout.{width}
 use Rattle.rule.specs.declared.Finding.{Finding}
-use Rattle.rule.specs.declared.Prepared.{Prepared}
+use Rattle.judge.specs.declared.Prepared.{Prepared}
 use Rattle.rule.specs.declared.Rule.{Rule}
-use Rattle.rule.specs.declared.Total.{Total}
-use Rattle.rule.specs.Promise.{Lists}
-use Rattle.rule.specs.Promise.Lists.{refused, listed}
-use Rattle.rule.specs.Search.{Met, Opens, Prepares}
-use Rattle.rule.specs.Search.Opens.{refused as not-opened, judged}
-use Rattle.rule.specs.laws.Search.{met-first}
-use Rattle.listing.specs.Listing.{Written}
+use Rattle.judge.specs.declared.Total.{Total}
+use Rattle.judge.specs.Promise.{Lists}
+use Rattle.judge.specs.Promise.Lists.{refused, listed}
+use Rattle.judge.specs.own.Search.{Met, Opens, Prepares}
+use Rattle.judge.specs.own.Search.Opens.{refused as not-opened, judged}
+use Rattle.judge.specs.laws.Search.{met-first}
+use Rattle.listing.specs.own.Listing.{Written}
 use Rattle.listing.specs.laws.Written.{written-first, written-none}
 
 -- the writer's work is the listing

@@ -4,8 +4,8 @@ use mathlib.Core.List.{List}
 use Prim.Native.Nat.{ℕ, min}
 use native.Mathlib.Omega.{arith}
 use lib.ListN.{length}
-use Rattle.closure.specs.declared.Counts.{Counts}
-use Rattle.closure.specs.Layout.{ClosedStore, size, width}
+use Rattle.store.specs.declared.Counts.{Counts}
+use Rattle.store.specs.Layout.{ClosedStore, size, width}
 use Rattle.rule.specs.declared.Finding.{Finding}
 use Rattle.sheet.specs.declared.Reading.{Reading}
 use Rattle.sheet.specs.declared.Reading.the-variants.{Accepted, Refused}
@@ -16,11 +16,11 @@ use Rattle.sheet.specs.Promise.{FindingsIn, Held, Reads}
 use Rattle.sheet.specs.Promise.Reads.{wrong-size, refused as refusedRead, accepted as acceptedRead}
 use Rattle.sheet.specs.Said.{Said, outcome}
 use Rattle.sheet.specs.Said.Outcome.{accepted as acceptedSheet}
-use Rattle.field.specs.own.Table.{namesOf}
-use Rattle.sheet.specs.laws.Stands.{Places, counts-of}
+use Rattle.field.specs.own.Table.{namesOf, Places}
+use Rattle.sheet.specs.laws.Stands.{counts-of}
 use Rattle.listing.specs.declared.Trail.{Trail}
-use Rattle.listing.specs.Trail.{First, Opens}
-use Rattle.listing.specs.Trail.Begins.{refused, accepted}
+use Rattle.listing.specs.own.Trail.{First, Opens}
+use Rattle.listing.specs.own.Trail.Begins.{refused, accepted}
 
 -- the findings that an answer counts
 abbrev totalIn : Reading → ℕ

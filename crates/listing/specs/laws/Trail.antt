@@ -7,18 +7,19 @@ use native.Mathlib.Numerals.{add-one}
 use native.Mathlib.Omega.{arith}
 use lib.ListN.{length, getD, take, drop, length-append, drop-of-length-le}
 use lib.Seq.{append-snoc, drop-append-seam, take-append-seam}
-use Rattle.closure.specs.declared.Counts.{Counts}
-use Rattle.closure.specs.declared.Layout.{Layout}
-use Rattle.closure.specs.Cell.{Cell}
-use Rattle.closure.specs.Layout.{ClosedStore, Holds, layoutOf, width}
+use Rattle.store.specs.declared.Counts.{Counts}
+use Rattle.store.specs.declared.Layout.{Layout}
+use Rattle.store.specs.Cell.{Cell}
+use Rattle.store.specs.Layout.{ClosedStore, Holds, width}
+use Rattle.store.specs.own.Laid.{layoutOf}
 use Rattle.rule.specs.declared.Finding.{Finding}
-use Rattle.rule.specs.declared.Prepared.{Prepared}
-use Rattle.rule.specs.declared.Search.{Search}
+use Rattle.judge.specs.declared.Prepared.{Prepared}
+use Rattle.judge.specs.declared.Search.{Search}
 use Rattle.rule.specs.Findings.{Findings}
-use Rattle.rule.specs.Search.{Coming, Starts, Stepped}
+use Rattle.judge.specs.own.Search.{Coming, Starts, Stepped}
 use Rattle.rule.specs.laws.Findings.{findings-unique}
-use Rattle.rule.specs.laws.Search.{coming-first}
-use Rattle.text.specs.Split.{endOf}
+use Rattle.judge.specs.laws.Search.{coming-first}
+use Rattle.text.specs.own.Split.{endOf}
 use Rattle.sheet.specs.declared.RuleLine.{RuleLine}
 use Rattle.field.specs.declared.Table.{Table}
 use Rattle.field.specs.Names.{countsOf}
@@ -26,11 +27,11 @@ use Rattle.sheet.specs.own.Pass.{Next, NextRule, Passing, Paused, countedIn, fo
 use Rattle.sheet.specs.Promise.{FindingsFrom}
 use Rattle.sheet.specs.Promise.FindingsFrom.{none, more}
 use Rattle.sheet.specs.Said.{SheetRule}
-use Rattle.field.specs.own.Table.{Roomy}
+use Rattle.field.specs.own.Table.{Roomy, Places}
 use Rattle.sheet.specs.laws.Pass.{passing-rest, passing-start}
-use Rattle.sheet.specs.laws.Stands.{Places, counts-of}
+use Rattle.sheet.specs.laws.Stands.{counts-of}
 use Rattle.listing.specs.declared.Trail.{Trail}
-use Rattle.listing.specs.Trail.{Beyond, Ended, First, Going, Onward, Sought, Steps, Went, searchOf, trailAt}
+use Rattle.listing.specs.own.Trail.{Beyond, Ended, First, Going, Onward, Sought, Steps, Went, searchOf, trailAt}
 
 -- ---- the findings of rules
 

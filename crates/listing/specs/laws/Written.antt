@@ -6,8 +6,8 @@ use native.Mathlib.Omega.{arith}
 use lib.ListN.{length, set, take, drop, length-append, length-drop}
 use lib.Seq.{drop-cons, append-snoc, set-at}
 use Rattle.rule.specs.declared.Finding.{Finding}
-use Rattle.rule.specs.laws.Search.{met-more}
-use Rattle.listing.specs.Listing.{WroteTo, Written}
+use Rattle.judge.specs.laws.Search.{met-more}
+use Rattle.listing.specs.own.Listing.{WroteTo, Written}
 
 module _ {C : Type 0} {Met : List Finding → C → Type 0} where
   -- nothing is written yet

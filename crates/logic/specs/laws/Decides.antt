@@ -5,7 +5,7 @@ use Prim.Native.Nat.{ℕ, _≤_, _<_}
 use native.Mathlib.Omega.{arith}
 use borrow.Author.Tests.{ltb-true, ltb-false, leb-true, leb-false, eqb-true, eqb-false}
 use lib.Dec.{ltb, leb, eqb}
-use Rattle.logic.specs.Decides.{Decides}
+use Rattle.logic.specs.own.Decides.{Decides}
 
 -- a test that said yes, and one that said no
 pub decides-yes : {P : Type 0} → P → Decides true P

@@ -3,11 +3,11 @@ use mathlib.Core.Path.{_≡_, ap}
 use mathlib.Core.Logic.{_↔_}
 use mathlib.Core.Bool.{true, false}
 use Prim.Native.Nat.{ℕ}
-use Rattle.closure.specs.declared.Counts.{Counts}
-use Rattle.closure.specs.Cell.{Cell, DeclaredItem, Follows, Obeys, Within}
-use Rattle.closure.specs.Cell.Cell.{Same, Under, RoleUnder, In, Link}
-use Rattle.closure.specs.Cell.Follows.{given}
-use Rattle.closure.specs.laws.Least.{follows-obeys, least, obeys-iff, within-obeys}
+use Rattle.store.specs.declared.Counts.{Counts}
+use Rattle.store.specs.Cell.{Cell, DeclaredItem, Follows, Obeys, Within}
+use Rattle.store.specs.Cell.Cell.{Same, Under, RoleUnder, In, Link}
+use Rattle.store.specs.Cell.Follows.{given}
+use Rattle.store.specs.laws.Least.{follows-obeys, least, obeys-iff, within-obeys}
 use Rattle.paper.specs.Interpretation.{Interpretation, Condition, Satisfies, Model}
 use Rattle.paper.specs.laws.Leader.{leader, leader-same, leader-joins, same-leader}
 

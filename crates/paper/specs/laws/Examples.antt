@@ -8,11 +8,11 @@ use lib.ListN.{length}
 use Rattle.logic.specs.Number.{One}
 use Rattle.logic.specs.Number.One.{first, later}
 use Rattle.logic.specs.laws.Number.{one-cases, one-none}
-use Rattle.closure.specs.declared.Counts.{Counts}
-use Rattle.closure.specs.declared.Statement.{Statement}
-use Rattle.closure.specs.Cell.{Cell, DeclaredItem, Follows, Within, cellOf}
-use Rattle.closure.specs.Cell.Cell.{Same, In, Link}
-use Rattle.closure.specs.Cell.Follows.{given, same-refl, same-sym, same-trans}
+use Rattle.store.specs.declared.Counts.{Counts}
+use Rattle.store.specs.declared.Statement.{Statement}
+use Rattle.store.specs.Cell.{Cell, DeclaredItem, Follows, Within, cellOf}
+use Rattle.store.specs.Cell.Cell.{Same, In, Link}
+use Rattle.store.specs.Cell.Follows.{given, same-refl, same-sym, same-trans}
 use Rattle.closure.specs.Lines.{Stated}
 use Rattle.closure.specs.Lines.Stated.{stated}
 use Rattle.rule.specs.declared.Head.the-variants.{Ref, Irr}

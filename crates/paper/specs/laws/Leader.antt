@@ -6,9 +6,9 @@ use native.Mathlib.Omega.{arith}
 use native.Mathlib.Decide.{ℕ-discrete}
 use Rattle.logic.specs.Lowest.{Lowest}
 use Rattle.logic.specs.laws.Lowest.{lowest-unique}
-use Rattle.closure.specs.declared.Counts.{Counts}
-use Rattle.closure.specs.Cell.{Cell, Obeys, DeclaredItem}
-use Rattle.closure.specs.Cell.Cell.{Same}
+use Rattle.store.specs.declared.Counts.{Counts}
+use Rattle.store.specs.Cell.{Cell, Obeys, DeclaredItem}
+use Rattle.store.specs.Cell.Cell.{Same}
 
 -- whether one thing or another holds can be told
 pub either? : {P Q : Type 0} → Dec P → Dec Q → Dec (P ⊎ Q)

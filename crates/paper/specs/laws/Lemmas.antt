@@ -2,9 +2,9 @@
 use mathlib.Core.Path.{_≡_}
 use mathlib.Core.Logic.{_⊎_, _↔_, inl, inr}
 use Prim.Native.Nat.{ℕ}
-use Rattle.closure.specs.declared.Counts.{Counts}
-use Rattle.closure.specs.Cell.{Cell, DeclaredItem}
-use Rattle.closure.specs.Cell.Cell.{Same}
+use Rattle.store.specs.declared.Counts.{Counts}
+use Rattle.store.specs.Cell.{Cell, DeclaredItem}
+use Rattle.store.specs.Cell.Cell.{Same}
 use Rattle.paper.specs.Interpretation.{Interpretation, Entails, Less, Minimal, Model, Satisfies}
 use Rattle.paper.specs.laws.Sound.{follows-satisfied}
 use Rattle.paper.specs.laws.Canonical.{Settled, canonical, canonical-exact}

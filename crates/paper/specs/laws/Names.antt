@@ -1,8 +1,8 @@
 -- A well-formed rule of declared names: the items it names, in its head and its expressions, are declared. Assumes nothing.
 use mathlib.Core.List.{List}
 use Prim.Native.Nat.{ℕ, zero, suc, _≤_, _<_}
-use Rattle.closure.specs.declared.Counts.{Counts}
-use Rattle.closure.specs.Cell.{DeclaredItem}
+use Rattle.store.specs.declared.Counts.{Counts}
+use Rattle.store.specs.Cell.{DeclaredItem}
 use Rattle.rule.specs.declared.Head.{Head}
 use Rattle.rule.specs.declared.Head.the-variants.{Sub, RoleSub, Chain, Ref, Irr, Dis, In, Rel, NoRel, Same, Differ}
 use Rattle.rule.specs.declared.Node.{Node}

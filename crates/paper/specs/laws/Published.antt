@@ -8,21 +8,21 @@ use lib.ListN.{length}
 use Rattle.logic.specs.Number.{One}
 use Rattle.logic.specs.Number.One.{first}
 use Rattle.logic.specs.laws.Number.{one-none}
-use Rattle.closure.specs.declared.Counts.{Counts}
-use Rattle.closure.specs.declared.Statement.{Statement}
-use Rattle.closure.specs.Cell.{Cell, Nothing, Within}
-use Rattle.closure.specs.Layout.{Holds}
+use Rattle.store.specs.declared.Counts.{Counts}
+use Rattle.store.specs.declared.Statement.{Statement}
+use Rattle.store.specs.Cell.{Cell, Nothing, Within}
+use Rattle.store.specs.Layout.{Holds}
 use Rattle.closure.specs.Lines.{Run, Stated}
-use Rattle.closure.specs.Promise.{Keeps}
+use Rattle.store.specs.Keeps.{Keeps}
 use Rattle.closure.specs.laws.Demand3.{demand-3}
 use Rattle.rule.specs.declared.Finding.{Finding}
 use Rattle.rule.specs.declared.Rule.{Rule}
 use Rattle.rule.specs.declared.Second.{Second}
-use Rattle.rule.specs.declared.Total.the-variants.{Count}
+use Rattle.judge.specs.declared.Total.the-variants.{Count}
 use Rattle.rule.specs.Breaks.{Breaks}
 use Rattle.rule.specs.Findings.{Findings, findingOf}
-use Rattle.rule.specs.Promise.{Judged, Totals}
-use Rattle.rule.specs.Promise.Totals.{counted}
+use Rattle.judge.specs.Promise.{Judged, Totals}
+use Rattle.judge.specs.Promise.Totals.{counted}
 use Rattle.query.specs.Demand2.{SameAnswers}
 use Rattle.query.specs.Says.{Answer}
 use Rattle.query.specs.laws.Demand2.{demand-2-query}

@@ -8,7 +8,7 @@ use lib.ListN.{length}
 use Rattle.logic.specs.Number.{One, Distinct}
 use Rattle.logic.specs.Number.One.{later}
 use Rattle.logic.specs.Number.Distinct.{none, more}
-use Rattle.closure.specs.declared.Counts.{Counts}
+use Rattle.store.specs.declared.Counts.{Counts}
 use Rattle.rule.specs.declared.RoleUse.{RoleUse}
 use Rattle.rule.specs.Expr.{Expr, atMost}
 use Rattle.rule.specs.Expr.Expr.{top, neg, both}

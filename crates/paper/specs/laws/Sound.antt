@@ -2,10 +2,10 @@
 use mathlib.Core.Path.{refl, sym, _∙_, subst, subst₂}
 use mathlib.Core.Bool.{Bool, true, false}
 use Prim.Native.Nat.{ℕ}
-use Rattle.closure.specs.declared.Counts.{Counts}
-use Rattle.closure.specs.Cell.{Cell, Follows, Obeys, turn}
-use Rattle.closure.specs.Cell.Cell.{RoleUnder}
-use Rattle.closure.specs.laws.Least.{least}
+use Rattle.store.specs.declared.Counts.{Counts}
+use Rattle.store.specs.Cell.{Cell, Follows, Obeys, turn}
+use Rattle.store.specs.Cell.Cell.{RoleUnder}
+use Rattle.store.specs.laws.Least.{least}
 use Rattle.paper.specs.Interpretation.{Interpretation, Condition, Satisfies, Model}
 
 -- two role steps one after the other

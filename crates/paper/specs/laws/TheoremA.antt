@@ -1,7 +1,7 @@
 -- Theorem A: a cell follows from the statements exactly if it holds in every model of them. Assumes nothing.
 use mathlib.Core.Logic.{_↔_}
-use Rattle.closure.specs.declared.Counts.{Counts}
-use Rattle.closure.specs.Cell.{Cell, Follows}
+use Rattle.store.specs.declared.Counts.{Counts}
+use Rattle.store.specs.Cell.{Cell, Follows}
 use Rattle.paper.specs.Interpretation.{Entails}
 use Rattle.paper.specs.laws.Sound.{follows-satisfied}
 use Rattle.paper.specs.laws.Canonical.{Settled, canonical, canonical-exact, canonical-model}

@@ -3,10 +3,10 @@ use mathlib.Core.Path.{_≡_, ap, ap₂, fst-path}
 use mathlib.Core.Logic.{_↔_}
 use mathlib.Core.Bool.{true, false}
 use Prim.Native.Nat.{ℕ}
-use Rattle.closure.specs.declared.Counts.{Counts}
-use Rattle.closure.specs.Cell.{Cell, DeclaredItem}
-use Rattle.closure.specs.Cell.Cell.{Same, Under, RoleUnder, In, Link}
-use Rattle.closure.specs.Cell.Follows.{given}
+use Rattle.store.specs.declared.Counts.{Counts}
+use Rattle.store.specs.Cell.{Cell, DeclaredItem}
+use Rattle.store.specs.Cell.Cell.{Same, Under, RoleUnder, In, Link}
+use Rattle.store.specs.Cell.Follows.{given}
 use Rattle.paper.specs.Interpretation.{Interpretation, Condition, Satisfies, Model, Less, Minimal}
 use Rattle.paper.specs.laws.Sound.{follows-satisfied}
 use Rattle.paper.specs.laws.Canonical.{Settled, canonical, canonical-exact, canonical-model, lead, settled-obeys}

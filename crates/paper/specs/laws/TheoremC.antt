@@ -5,10 +5,10 @@ use mathlib.Core.List.{List, [], _∷_}
 use Prim.Native.Nat.{ℕ, zero, suc, _≤_}
 use native.Mathlib.Omega.{arith}
 use lib.ListN.{take}
-use Rattle.closure.specs.declared.Counts.{Counts}
-use Rattle.closure.specs.declared.Item.{Item}
-use Rattle.closure.specs.Cell.{Cell, DeclaredItem}
-use Rattle.closure.specs.Cell.Cell.{Same as SameCell}
+use Rattle.store.specs.declared.Counts.{Counts}
+use Rattle.store.specs.declared.Item.{Item}
+use Rattle.store.specs.Cell.{Cell, DeclaredItem}
+use Rattle.store.specs.Cell.Cell.{Same as SameCell}
 use Rattle.rule.specs.declared.Head.{Head}
 use Rattle.rule.specs.declared.Head.the-variants.{Sub, RoleSub, Chain, Ref, Irr, Dis, In, Rel, NoRel, Same, Differ}
 use Rattle.rule.specs.declared.RoleUse.{RoleUse}
@@ -20,7 +20,7 @@ use Rattle.rule.specs.Breaks.{Breaks, BreaksAlone, BreaksPair, Path}
 use Rattle.rule.specs.Expr.{Expr, exprOf}
 use Rattle.rule.specs.Form.{RuleWithin, WellFormed}
 use Rattle.rule.specs.Meaning.{HoldsOf, Linked}
-use Rattle.rule.specs.laws.Holding.{holdsOf?, linked?}
+use Rattle.rule.specs.laws.Told.{holdsOf?, linked?}
 use Rattle.paper.specs.Interpretation.{Interpretation, Minimal}
 use Rattle.paper.specs.Known.{Composed, KnownOf, KnownRole, Named}
 use Rattle.paper.specs.Satisfied.{ICSatisfies, Meets, ValueBreaks}

@@ -9,9 +9,9 @@ use Rattle.logic.specs.Number.{One, Distinct}
 use Rattle.logic.specs.Number.One.{first, later}
 use Rattle.logic.specs.Number.Distinct.{none as no-other, more as one-more}
 use Rattle.logic.specs.laws.Number.{one-cases, one-none}
-use Rattle.closure.specs.declared.Counts.{Counts}
-use Rattle.closure.specs.Cell.{Cell, DeclaredItem}
-use Rattle.closure.specs.Cell.Cell.{In, Link}
+use Rattle.store.specs.declared.Counts.{Counts}
+use Rattle.store.specs.Cell.{Cell, DeclaredItem}
+use Rattle.store.specs.Cell.Cell.{In, Link}
 use Rattle.rule.specs.declared.RoleUse.{RoleUse}
 use Rattle.rule.specs.Breaks.{Path}
 use Rattle.rule.specs.Expr.{Expr}

@@ -6,10 +6,10 @@ use Prim.Native.Nat.{ℕ, zero, suc, _+_, _≤_, _<_}
 use native.Mathlib.Decide.{ℕ-discrete}
 use native.Mathlib.Omega.{arith}
 use lib.ListN.{length, getD, take, length-take}
-use Rattle.closure.specs.declared.Counts.{Counts}
-use Rattle.closure.specs.declared.Item.{Item}
-use Rattle.closure.specs.Cell.{Cell, DeclaredItem}
-use Rattle.closure.specs.Cell.Cell.{Same as SameCell}
+use Rattle.store.specs.declared.Counts.{Counts}
+use Rattle.store.specs.declared.Item.{Item}
+use Rattle.store.specs.Cell.{Cell, DeclaredItem}
+use Rattle.store.specs.Cell.Cell.{Same as SameCell}
 use Rattle.rule.specs.declared.Head.{Head}
 use Rattle.rule.specs.declared.Head.the-variants.{Sub, RoleSub, Chain, Ref, Irr, Dis, In, Rel, NoRel, Same, Differ}
 use Rattle.rule.specs.declared.Rule.{Rule}
@@ -21,10 +21,10 @@ use Rattle.rule.specs.Form.{HeadFits, HeadWithin}
 use Rattle.rule.specs.Expr.{Expr, exprOf}
 use Rattle.rule.specs.Meaning.{Linked, HoldsOf}
 use Rattle.rule.specs.Breaks.{Path, Breaks}
-use Rattle.query.specs.Body.{firstItem, Body, end, atom, not, eq, _⊕_, flat, size, whole}
+use Rattle.query.specs.Body.{firstItem, Body, end, atom, not, eq, _⊕_, flat, size}
 use Rattle.query.specs.Says.{Values, Met, val, meet, meets, Agree, InRange, HoldsAtom, All, Answer}
 use Rattle.query.specs.Translation.{link, variables, ofExpr, path, without, answersOf, bodyOf, queryOf}
-use Rattle.query.specs.Length.{lengthOf, headLength}
+use Rattle.query.specs.Length.{headLength}
 use Rattle.query.specs.Promise.{itemLimit}
 use Rattle.query.specs.Demand2.{Shown}
 use Rattle.query.specs.Demand2.Shown.{yes, alone, pair}

@@ -4,7 +4,7 @@ use mathlib.Core.List.{List, [], _∷_, _++_, append-assoc}
 use Prim.Native.Nat.{ℕ, _+_, _*_}
 use native.Mathlib.Omega.{arith}
 use lib.ListN.{length, length-append}
-use Rattle.query.specs.Body.{Atom, isA, rel, eq, Body, end, atom, not, _⊕_, flat, size, Reading, broken, whole, inside, on, closes, opens, item, reads}
+use Rattle.query.specs.Body.{isA, rel, eq, Body, end, atom, not, _⊕_, flat, size, Reading, broken, whole, inside, on, closes, opens, reads}
 
 pub ⊕-end : (q : Body) → q ⊕ end ≡ q
 ⊕-end end = refl

@@ -2,11 +2,11 @@
 use mathlib.Core.Path.{_≡_, refl, sym, ap, subst, _∙_}
 use mathlib.Core.Logic.{by-cases}
 use mathlib.Core.List.{List}
-use Prim.Native.Nat.{ℕ, zero, suc, _+_, _*_, _-_, _/_, _<_, _≤_, min}
+use Prim.Native.Nat.{ℕ, zero, suc, _+_, _*_, _-_, _/_, _≤_, min}
 use native.Mathlib.Nat.{mul-le-mul, suc-mul}
 use native.Mathlib.Decide.{decLe, ℕ-discrete}
 use native.Mathlib.Omega.{arith}
-use Rattle.closure.specs.declared.Item.{Item}
+use Rattle.store.specs.declared.Item.{Item}
 use Rattle.rule.specs.declared.Head.{Head}
 use Rattle.rule.specs.declared.Head.the-variants.{Sub, Chain, In}
 use Rattle.rule.specs.declared.RoleUse.{RoleUse}
@@ -15,7 +15,7 @@ use Rattle.rule.specs.Expr.{Expr, exprOf}
 use Rattle.rule.specs.Expr.Expr.{neg, both, many}
 use Rattle.query.specs.Length.{lengthOf, headLength}
 use Rattle.query.specs.Promise.{itemLimit}
-use Rattle.query.specs.Writing.{Capped, Long}
+use Rattle.query.specs.own.Writing.{Capped, Long}
 
 pub cap-as : (r : ℕ) (e f : Expr) → e ≡ f → Capped f r → Capped e r
 cap-as r e f p h = subst (λ x. Capped x r) (sym p) h

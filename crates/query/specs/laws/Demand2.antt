@@ -1,14 +1,14 @@
 -- The second half of demand 2: a compiled query has the findings as its answers, and no others. Assumes nothing.
 use mathlib.Core.Path.{_≡_, refl, sym, ap, _∙_, subst}
-use mathlib.Core.List.{List, [], _∷_, _++_}
+use mathlib.Core.List.{List, [], _∷_}
 use Prim.Native.Nat.{ℕ, _*_}
 use native.Mathlib.Omega.{arith}
 use lib.ListN.{take, drop}
 use lib.Seq.{take-at}
 use Rattle.logic.specs.Number.{One}
-use Rattle.closure.specs.declared.Counts.{Counts}
-use Rattle.closure.specs.declared.Item.{Item}
-use Rattle.closure.specs.Cell.{Cell}
+use Rattle.store.specs.declared.Counts.{Counts}
+use Rattle.store.specs.declared.Item.{Item}
+use Rattle.store.specs.Cell.{Cell}
 use Rattle.rule.specs.declared.Finding.{Finding}
 use Rattle.rule.specs.declared.Head.{Head}
 use Rattle.rule.specs.declared.Head.the-variants.{Sub, RoleSub, Chain, Ref, Irr, Dis, In, Rel, NoRel, Same, Differ}
@@ -20,7 +20,6 @@ use Rattle.rule.specs.Breaks.{Breaks}
 use Rattle.rule.specs.Findings.{Findings, findingOf}
 use Rattle.query.specs.declared.Outcome.the-variants.{Compiled}
 use Rattle.query.specs.Body.{flat, size}
-use Rattle.query.specs.Says.{Answer}
 use Rattle.query.specs.Translation.{answersOf, queryOf}
 use Rattle.query.specs.Promise.{Compilable, Compiles}
 use Rattle.query.specs.Promise.Compiles.{compiled}

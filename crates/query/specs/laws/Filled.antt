@@ -1,22 +1,22 @@
 -- Laws of writing a whole query, a rule word after the other. Assumes nothing.
 use mathlib.Core.Path.{_≡_, refl, sym, ap, ap₂, subst, subst₂, _∙_}
 use mathlib.Core.List.{List, [], _∷_, _++_}
-use Prim.Native.Nat.{ℕ, zero, suc, _+_, _*_, _-_, _<_, _≤_}
+use Prim.Native.Nat.{ℕ, zero, suc, _+_, _*_, _-_, _≤_}
 use native.Mathlib.Omega.{arith}
 use lib.ListN.{length, take, length-append, length-take}
 use lib.Seq.{sets}
-use Rattle.closure.specs.declared.Item.{Item}
+use Rattle.store.specs.declared.Item.{Item}
 use Rattle.rule.specs.declared.Head.{Head}
 use Rattle.rule.specs.declared.Head.the-variants.{Sub, RoleSub, Chain, Ref, Irr, Dis, In, Rel, NoRel, Same, Differ}
 use Rattle.rule.specs.declared.RoleUse.{RoleUse}
 use Rattle.rule.specs.declared.Slot.{Slot}
 use Rattle.rule.specs.Expr.{Expr, exprOf}
 use Rattle.query.specs.declared.Cursor.{Cursor}
-use Rattle.query.specs.Body.{firstItem, Atom, eq, Body, end, atom, not, _⊕_, flat, size}
+use Rattle.query.specs.Body.{firstItem, eq, Body, end, atom, not, _⊕_, flat}
 use Rattle.query.specs.Translation.{link, variables, ofExpr, path, without, bodyOf}
 use Rattle.query.specs.Length.{lengthOf, headLength}
 use Rattle.query.specs.Promise.{itemLimit}
-use Rattle.query.specs.Writing.{SmallRole, SmallHead, Wrote, RoomFor, Roomy, Written, RoomyPath, Pathed, Spacious, Filled}
+use Rattle.query.specs.own.Writing.{SmallRole, SmallHead, Wrote, RoomFor, Roomy, Written, RoomyPath, Pathed, Spacious, Filled}
 use Rattle.query.specs.laws.Body.{flat-⊕, length-flat}
 use Rattle.query.specs.laws.Length.{size-path, variables-le}
 use Rattle.query.specs.laws.Writing.{then, wrote-length, expr-words, link-words, flat-link}

@@ -1,7 +1,7 @@
 -- Lengths of queries: they are document 01's. Assumes nothing.
 use mathlib.Core.Path.{_≡_, refl, sym, ap, ap₂, _∙_, subst}
 use mathlib.Core.List.{List, [], _∷_}
-use Prim.Native.Nat.{ℕ, zero, suc, _+_, _*_, _-_, _/_, _≤_, _<_}
+use Prim.Native.Nat.{ℕ, zero, suc, _+_, _*_, _-_, _/_, _≤_}
 use native.Mathlib.Nat.{suc-mul, mul-suc, mul-le-mul-left}
 use native.Mathlib.Omega.{arith}
 use lib.ListN.{length, take, length-take}
@@ -12,7 +12,7 @@ use Rattle.rule.specs.Form.{HeadFits}
 use Rattle.rule.specs.declared.RoleUse.{RoleUse}
 use Rattle.rule.specs.Expr.{Expr, exprOf}
 use Rattle.rule.specs.Expr.Expr.{name, top, neg, both, many, own, one}
-use Rattle.query.specs.Body.{firstItem, Body, end, atom, not, _⊕_, size}
+use Rattle.query.specs.Body.{firstItem, Body, end, not, _⊕_, size}
 use Rattle.query.specs.Translation.{link, variables, turns, news, apart, pairs, ofExpr, path, without, bodyOf}
 use Rattle.query.specs.Length.{lengthOf, headLength}
 use Rattle.query.specs.laws.Body.{size-⊕}

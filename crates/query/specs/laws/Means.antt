@@ -10,14 +10,14 @@ use native.Mathlib.Omega.{arith}
 use lib.ListN.{length}
 use Rattle.logic.specs.Number.{One}
 use Rattle.logic.specs.Number.One.{first, later}
-use Rattle.closure.specs.declared.Counts.{Counts}
-use Rattle.closure.specs.Cell.{Cell, DeclaredItem}
-use Rattle.closure.specs.Cell.Cell.{Same, In, Link}
+use Rattle.store.specs.declared.Counts.{Counts}
+use Rattle.store.specs.Cell.{Cell, DeclaredItem}
+use Rattle.store.specs.Cell.Cell.{Same}
 use Rattle.rule.specs.declared.RoleUse.{RoleUse}
 use Rattle.rule.specs.Expr.{Expr}
 use Rattle.rule.specs.Expr.Expr.{name, top, neg, both, many, own, one}
-use Rattle.rule.specs.Meaning.{LinkedWay, Linked, Different, Articles, HoldsOf}
-use Rattle.query.specs.Body.{firstItem, Atom, isA, rel, eq, Body, end, atom, not, _⊕_}
+use Rattle.rule.specs.Meaning.{LinkedWay, Linked, Different, HoldsOf}
+use Rattle.query.specs.Body.{firstItem, eq, Body, _⊕_}
 use Rattle.query.specs.Says.{Values, Met, val, meet, meets, Agree, InRange, HoldsAtom, All}
 use Rattle.query.specs.Translation.{linkWay, link, variables, turns, news, apart, pairs, ofExpr}
 use Rattle.query.specs.laws.Says.{Exists, meets-⊕, meet-mono, mono, val-var, val-item, val-agree, frame, split, join}

@@ -10,8 +10,8 @@ use lib.ListN.{length, drop}
 use lib.Seq.{sets, sets-eq}
 use Rattle.logic.specs.Lowest.{Lowest, NoneApplies}
 use Rattle.logic.specs.laws.Lowest.{lowest-unique}
-use Rattle.closure.specs.declared.Counts.{Counts}
-use Rattle.closure.specs.Layout.{Fits, width}
+use Rattle.store.specs.declared.Counts.{Counts}
+use Rattle.store.specs.Layout.{Fits, width}
 use Rattle.rule.specs.declared.Rule.{Rule}
 use Rattle.rule.specs.Form.{WellFormed, RuleWithin}
 use Rattle.query.specs.declared.Outcome.{Outcome}
@@ -20,11 +20,10 @@ use Rattle.query.specs.declared.QueryRefusal.{QueryRefusal}
 use Rattle.query.specs.declared.QueryRefusal.the-variants.{Size, Malformed, Number, Long as TooLong, Room}
 use Rattle.query.specs.Body.{flat, size}
 use Rattle.query.specs.Translation.{answersOf, queryOf}
-use Rattle.query.specs.Length.{headLength}
 use Rattle.query.specs.Promise.{itemLimit, number, CompileFault, Compilable, Compiles}
 use Rattle.query.specs.Promise.CompileFault.{wrong-size, malformed, wrong-number, too-long, no-room}
 use Rattle.query.specs.Promise.Compiles.{refused, compiled}
-use Rattle.query.specs.Writing.{Long, Spacious, Filled}
+use Rattle.query.specs.own.Writing.{Long, Spacious, Filled}
 use Rattle.query.specs.laws.Body.{length-flat}
 use Rattle.query.specs.laws.Length.{head-length}
 use Rattle.query.specs.laws.Small.{small-head}

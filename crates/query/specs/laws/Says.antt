@@ -4,9 +4,9 @@ use mathlib.Core.Logic.{inl, inr, if-pos, if-neg, by-cases}
 use Prim.Native.Nat.{ℕ, _+_, _-_, _<_}
 use native.Mathlib.Decide.{decLt}
 use native.Mathlib.Omega.{arith}
-use Rattle.closure.specs.declared.Counts.{Counts}
-use Rattle.closure.specs.Cell.{Cell}
-use Rattle.closure.specs.Cell.Cell.{Same, In, Link}
+use Rattle.store.specs.declared.Counts.{Counts}
+use Rattle.store.specs.Cell.{Cell}
+use Rattle.store.specs.Cell.Cell.{Same, In, Link}
 use Rattle.query.specs.Body.{firstItem, Atom, isA, rel, eq, Body, end, atom, not, _⊕_}
 use Rattle.query.specs.Says.{Values, Met, val, meet, meets, Agree, InRange, HoldsAtom, All}
 

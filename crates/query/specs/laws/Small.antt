@@ -1,11 +1,10 @@
 -- The numbers of a rule that is not refused can be written as words. Assumes nothing.
-use mathlib.Core.Path.{_≡_, subst}
-use mathlib.Core.List.{List, [], _∷_}
-use Prim.Native.Nat.{ℕ, zero, suc, _+_, _≤_, _<_}
+use mathlib.Core.List.{[], _∷_}
+use Prim.Native.Nat.{ℕ, zero, suc, _≤_, _<_}
 use native.Mathlib.Omega.{arith}
 use lib.ListN.{take}
-use Rattle.closure.specs.declared.Counts.{Counts}
-use Rattle.closure.specs.Layout.{Fits, width}
+use Rattle.store.specs.declared.Counts.{Counts}
+use Rattle.store.specs.Layout.{Fits, width}
 use Rattle.rule.specs.declared.Head.{Head}
 use Rattle.rule.specs.declared.Head.the-variants.{Sub, RoleSub, Chain, Ref, Irr, Dis, In, Rel, NoRel, Same, Differ}
 use Rattle.rule.specs.declared.Node.{Node}
@@ -15,10 +14,11 @@ use Rattle.rule.specs.declared.Rule.{Rule}
 use Rattle.rule.specs.Form.{nodeAt, nodeLimit, HeadFits, UsesLater, CountFits, WellFormed, NodeWithin, HeadWithin, RuleWithin}
 use Rattle.rule.specs.Expr.{Expr, build, exprAt}
 use Rattle.query.specs.Body.{firstItem}
-use Rattle.query.specs.Writing.{SmallRole, SmallPath, Small, SmallHead}
+use Rattle.query.specs.own.Writing.{SmallRole, SmallPath, Small, SmallHead}
+use Rattle.store.specs.Cell.{DeclaredItem}
 
 module _ (n : Counts) (f : Fits width n) where
-  small-item : (a : ℕ) → a < n .items → a < firstItem
+  small-item : (a : ℕ) → DeclaredItem n a → a < firstItem
   small-item a l = omega (arith, f .items)
 
   small-concept : (a : ℕ) → a < n .concepts → a < firstItem

@@ -8,8 +8,8 @@ use native.Mathlib.Numerals.{sub-one}
 use native.Mathlib.Omega.{arith}
 use lib.ListN.{length, set, take, length-append, length-take}
 use lib.Seq.{sets, length-sets}
-use Rattle.closure.specs.declared.Concept.{Concept}
-use Rattle.closure.specs.declared.Item.{Item}
+use Rattle.store.specs.declared.Concept.{Concept}
+use Rattle.store.specs.declared.Item.{Item}
 use Rattle.rule.specs.declared.Node.{Node}
 use Rattle.rule.specs.declared.RoleUse.{RoleUse}
 use Rattle.rule.specs.declared.Slot.{Slot}
@@ -18,10 +18,10 @@ use Rattle.rule.specs.Expr.{Expr, build, exprAt}
 use Rattle.rule.specs.Expr.Expr.{name, top, neg, both, many, own, one}
 use Rattle.rule.specs.laws.Tree.{exprAt-step, exprAt-none}
 use Rattle.query.specs.declared.Cursor.{Cursor}
-use Rattle.query.specs.Body.{firstItem, Atom, eq, Body, end, atom, not, _⊕_, flat, size}
+use Rattle.query.specs.Body.{firstItem, Atom, eq, Body, end, atom, _⊕_, flat}
 use Rattle.query.specs.Translation.{linkWay, link, variables, turns, news, apart, pairs, ofExpr, path, without}
 use Rattle.query.specs.Length.{lengthOf}
-use Rattle.query.specs.Writing.{SmallRole, SmallPath, Wrote, RoomFor, Roomy, Written, RoomyTurns, Turned, RoomyApart, Parted, RoomyPairs, Paired, RoomyPath, Pathed}
+use Rattle.query.specs.own.Writing.{SmallRole, SmallPath, Wrote, RoomFor, Roomy, Written, RoomyTurns, Turned, RoomyApart, Parted, RoomyPairs, Paired, RoomyPath, Pathed}
 use Rattle.query.specs.laws.Body.{flat-⊕, size-⊕, length-flat}
 use Rattle.query.specs.laws.Length.{size-expr, size-apart-news, size-pairs-news, size-turns-expr}
 

@@ -1,8 +1,8 @@
 -- `reason::explain` meets its contract. Assumes nothing.
 use native.Mathlib.Omega.{arith}
 use borrow.Author.Needs.{needs}
-use Rattle.closure.specs.Cell.{cellOf}
-use Rattle.reason.specs.Fact.{Ties}
+use Rattle.store.specs.Cell.{cellOf}
+use Rattle.reason.specs.own.Fact.{Ties}
 use Rattle.reason.specs.laws.Explain.{aimed-of, fact-reasoned, plain-reasoned, plain-role, plain-same, plain-under, plain-wanted, role-low}
 use Rattle.reason.proofs.explain.Statement.{statement}
 use Rattle.reason.proofs.explain.Tie as tie

@@ -8,23 +8,23 @@ use native.Mathlib.Decide.{decLt}
 use native.Mathlib.Omega.{arith}
 use lib.Dec.{eqb}
 use lib.ListN.{length, getD}
-use Rattle.logic.specs.Decides.{Decides}
-use Rattle.closure.specs.declared.Counts.{Counts}
-use Rattle.closure.specs.Cell.{Cell, Within}
-use Rattle.closure.specs.Cell.Cell.{Same, Under, RoleUnder, In, Link}
-use Rattle.closure.specs.Layout.{Fits, width}
+use Rattle.logic.specs.own.Decides.{Decides}
+use Rattle.store.specs.declared.Counts.{Counts}
+use Rattle.store.specs.Cell.{Cell, Within, DeclaredItem}
+use Rattle.store.specs.Cell.Cell.{Same, Under, RoleUnder, In, Link}
+use Rattle.store.specs.Layout.{Fits, width}
 use Rattle.reason.specs.declared.Fact.{Fact}
 use Rattle.reason.specs.declared.Kind.{Kind}
 use Rattle.reason.specs.declared.Kind.the-variants as kind
 use Rattle.reason.specs.declared.Route.{Route}
-use Rattle.reason.specs.Aim.{Above, Aimed, Beside, Bounded, Fresh, Inside, Near, Sighted, Small, Starts, Tables, aboveBy, aboveGoal, factAt, meetsb, opensb, placesOf, sameBy, sameGoal}
-use Rattle.reason.specs.Code.{AllWithin, Coded, cellAt}
-use Rattle.reason.specs.Code.Coded.{coded}
-use Rattle.reason.specs.Fact.{Along, Meets, factOf, kindAbove, placesAbove, straight, turned}
-use Rattle.reason.specs.Picked.{picked}
-use Rattle.reason.specs.Seek.{Narrowest, StepsBelow, Tabled, Wanted, leadsb, nodeLimit}
-use Rattle.reason.specs.Walk.{CellStep, Leads, Reached}
-use Rattle.reason.specs.Walk.CellStep.{same, same-back, under, role, role-turned}
+use Rattle.reason.specs.own.Aim.{Above, Aimed, Beside, Bounded, Fresh, Inside, Near, Sighted, Small, Starts, Tables, aboveBy, aboveGoal, factAt, meetsb, opensb, placesOf, sameBy, sameGoal}
+use Rattle.reason.specs.own.Code.{AllWithin, Coded, cellAt}
+use Rattle.reason.specs.own.Code.Coded.{coded}
+use Rattle.reason.specs.own.Fact.{Along, Meets, factOf, kindAbove, placesAbove, straight, turned}
+use Rattle.reason.specs.own.Picked.{picked}
+use Rattle.reason.specs.own.Seek.{Narrowest, StepsBelow, Tabled, Wanted, leadsb, nodeLimit}
+use Rattle.reason.specs.own.Walk.{CellStep, Leads, Reached}
+use Rattle.reason.specs.own.Walk.CellStep.{same, same-back, under, role, role-turned}
 use Rattle.reason.specs.laws.Flag.{both-on, decided, decides-either, left-on, right-on}
 use Rattle.reason.specs.laws.Place.{at-one, minimal-iff, one-at}
 
@@ -55,7 +55,7 @@ places-above n g = go (eqb (g .sort) 1)
     go false = refl
 
 -- the fact of a cell within the counts; that of another cell, if there is an item
-pub fact-bounded : {n : Counts} (c : Cell) → Fits width n → Within n c → 0 < n .items → Bounded n (factOf c)
+pub fact-bounded : {n : Counts} (c : Cell) → Fits width n → Within n c → DeclaredItem n 0 → Bounded n (factOf c)
 fact-bounded (Same a b) f h z = record { above = omega arith; first = z; second = z }
 fact-bounded (Under a b) f h z = record { above = omega arith; first = z; second = z }
 fact-bounded (RoleUnder r u s) f h z = record { above = omega arith; first = z; second = z }

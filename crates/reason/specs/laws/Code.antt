@@ -4,12 +4,12 @@ use mathlib.Core.Bool.{Bool, true, false}
 use Prim.Native.Nat.{ℕ, _+_, _*_, _/_, _%_, _<_}
 use native.Mathlib.Omega.{arith}
 use borrow.Author.Tests.{ne-eqb}
-use Rattle.closure.specs.declared.Counts.{Counts}
-use Rattle.closure.specs.declared.Statement.{Statement}
-use Rattle.closure.specs.Cell.{Cell, Within, cellOf}
-use Rattle.closure.specs.Cell.Cell.{Same, Under, RoleUnder, In, Link}
-use Rattle.closure.specs.Layout.{Fits, width}
-use Rattle.reason.specs.Code.{Small, SmallCell, cellAt, cellBy, roleKind}
+use Rattle.store.specs.declared.Counts.{Counts}
+use Rattle.store.specs.declared.Statement.{Statement}
+use Rattle.store.specs.Cell.{Cell, Within, cellOf}
+use Rattle.store.specs.Cell.Cell.{Same, Under, RoleUnder, In, Link}
+use Rattle.store.specs.Layout.{Fits, width}
+use Rattle.reason.specs.own.Code.{Small, SmallCell, cellAt, cellBy, roleKind}
 
 -- the cell of a number made of parts
 pub cell-number : (k n a b r : ℕ) → n < 8 → a < 512 → b < 512 → k ≡ n + 8 * a + 4096 * b + 2097152 * r → cellAt k ≡ cellBy n a b r

@@ -5,29 +5,29 @@ use mathlib.Core.Bool.{Bool, true, false, false≢true}
 use mathlib.Core.List.{List}
 use Prim.Native.Nat.{ℕ, _<_}
 use native.Mathlib.Omega.{arith}
-use Rattle.closure.specs.declared.Counts.{Counts}
-use Rattle.closure.specs.Cell.{Cell, Within}
-use Rattle.closure.specs.Cell.Cell.{Same, Under, RoleUnder, In, Link}
-use Rattle.closure.specs.Layout.{roleLimit}
-use Rattle.closure.specs.laws.Least.{least, within-obeys}
+use Rattle.store.specs.declared.Counts.{Counts}
+use Rattle.store.specs.Cell.{Cell, Within}
+use Rattle.store.specs.Cell.Cell.{Same, Under, RoleUnder, In, Link}
+use Rattle.store.specs.Layout.{roleLimit}
+use Rattle.store.specs.laws.Least.{least, within-obeys}
 use Rattle.reason.specs.declared.Fact.{Fact}
 use Rattle.reason.specs.declared.Kind.{Kind}
 use Rattle.reason.specs.declared.Kind.the-variants as kind
-use Rattle.reason.specs.Aim.{Above, Aimed, Beside, Bounded, Joined, Reaches, placesOf, plainGoal}
-use Rattle.reason.specs.Code.{AllWithin, Coded}
-use Rattle.reason.specs.Code.Coded.{coded}
-use Rattle.reason.specs.Fact.{Ties, factOf, placesAbove}
+use Rattle.reason.specs.own.Aim.{Above, Aimed, Beside, Bounded, Joined, Reaches, placesOf, plainGoal}
+use Rattle.reason.specs.own.Code.{AllWithin, Coded}
+use Rattle.reason.specs.own.Code.Coded.{coded}
+use Rattle.reason.specs.own.Fact.{Ties, factOf, placesAbove}
 use Rattle.reason.specs.Part.{Part}
-use Rattle.reason.specs.Promise.{FollowsCoded, Reasoned, Sought}
-use Rattle.reason.specs.Seek.{Narrowest, Wanted}
-use Rattle.reason.specs.Walk.{Reached, Walk, node}
+use Rattle.reason.specs.own.Promise.{FollowsCoded, Reasoned, Sought}
+use Rattle.reason.specs.own.Seek.{Narrowest, Wanted}
+use Rattle.reason.specs.own.Walk.{Reached, Walk, node}
 use Rattle.reason.specs.laws.Aim.{fact-bounded, places-fit, steps-below}
 use Rattle.reason.specs.laws.Found.{found-follows, follows-found, follows-says}
 use Rattle.reason.specs.laws.Part.{part-one}
 use Rattle.reason.specs.laws.Place.{minimal-iff, placed-at}
 use Rattle.reason.specs.laws.Walks.{walk-at, walk-role, walk-same, walk-under}
 use Rattle.reason.specs.laws.Union.{union-minimal}
-use Rattle.row.specs.Row.{rowHasb}
+use Rattle.row.specs.own.Row.{rowHasb}
 
 -- what the numbers of a list state is within the counts, as far as they are
 coded-within : (n : Counts) {xs : List ℕ} → AllWithin n xs → (c : Cell) → Coded xs c → Within n c

@@ -2,7 +2,7 @@
 use mathlib.Core.Path.{_≡_, refl}
 use mathlib.Core.Logic.{_⊎_, inl, inr, ⊎-elim}
 use mathlib.Core.Bool.{Bool, true, false, _&&_, _||_, false≢true, true≢false}
-use Rattle.logic.specs.Decides.{Decides}
+use Rattle.logic.specs.own.Decides.{Decides}
 
 pub both-on : (a b : Bool) → a ≡ true → b ≡ true → (a && b) ≡ true
 both-on true b e f = f

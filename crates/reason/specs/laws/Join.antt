@@ -8,13 +8,13 @@ use native.Mathlib.Decide.{decLt}
 use native.Mathlib.Omega.{arith}
 use lib.Bits.{bitOr}
 use lib.ListN.{getD, List·getD-eq-default}
-use Rattle.row.specs.Change.{Mapped, rowOr}
-use Rattle.row.specs.Pick.{Marked}
-use Rattle.row.specs.Row.{RowHas}
+use Rattle.row.specs.own.Change.{Mapped, rowOr}
+use Rattle.row.specs.own.Pick.{Marked}
+use Rattle.row.specs.own.Row.{RowHas}
 use Rattle.row.specs.laws.Bit.{has-hasb, has-or, hasb-has, moved, or-left, or-right, zero-none}
 use Rattle.row.specs.laws.Rows.{rowOr-on}
-use Rattle.reason.specs.Aim.{Joinable, Joined}
-use Rattle.reason.specs.Picked.{markWords}
+use Rattle.reason.specs.own.Aim.{Joinable, Joined}
+use Rattle.reason.specs.own.Picked.{markWords}
 
 module _ {marks more middle after : List ℕ} {n : ℕ} (w : Joinable marks more n) (o : Mapped (rowOr 0 more true) 0 (0 + markWords) marks middle) (k : Marked true n middle after) where
   word : (h : ℕ) → h < markWords → getD middle h 0 ≡ bitOr (getD marks h 0) (getD more h 0)

@@ -8,13 +8,13 @@ use native.Mathlib.Decide.{decLt}
 use native.Mathlib.Omega.{arith}
 use lib.ListN.{length, getD, length-append, List·getD-eq-default, replicate, length-replicate, getD-replicate}
 use Rattle.logic.specs.Number.{One}
-use Rattle.row.specs.Pick.{Marked}
-use Rattle.row.specs.Row.{rowHasb}
-use Rattle.row.specs.Bit.{hasb}
+use Rattle.row.specs.own.Pick.{Marked}
+use Rattle.row.specs.own.Row.{rowHasb}
+use Rattle.row.specs.own.Bit.{hasb}
 use Rattle.row.specs.laws.Bit.{has-hasb, hasb-has, hasb-not, not-hasb, zero-none}
 use Rattle.reason.specs.Part.{Grows, Minimal, Part}
 use Rattle.reason.specs.Part.Part.{none, keep, leave}
-use Rattle.reason.specs.Picked.{Sets, Until, pickedFrom}
+use Rattle.reason.specs.own.Picked.{Sets, Until, pickedFrom}
 use Rattle.reason.specs.laws.Narrow.{Narrowed, narrow-start, narrow-step, narrow-stop}
 use Rattle.reason.specs.laws.Part.{one-joined, one-left, one-right}
 

@@ -13,7 +13,7 @@ use Rattle.logic.specs.Number.One.{first, later}
 use Rattle.logic.specs.laws.Number.{one-cases, one-none}
 use Rattle.reason.specs.Part.{Grows, Minimal, Part}
 use Rattle.reason.specs.Part.Part.{keep, leave}
-use Rattle.reason.specs.Picked.{pickedFrom}
+use Rattle.reason.specs.own.Picked.{pickedFrom}
 use Rattle.reason.specs.laws.Part.{minimal-by-one, one-right, part-all}
 use Rattle.reason.specs.laws.Picked.{picked-first, picked-part, picked-same}
 

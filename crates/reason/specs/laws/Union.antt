@@ -7,20 +7,20 @@ use Prim.Native.Nat.{ℕ}
 use native.Mathlib.Omega.{arith}
 use borrow.Author.Tests.{eqb-true}
 use lib.Dec.{eqb}
-use Rattle.closure.specs.Cell.{Cell}
-use Rattle.closure.specs.Cell.Cell.{Same, Under, RoleUnder, In, Link}
+use Rattle.store.specs.Cell.{Cell}
+use Rattle.store.specs.Cell.Cell.{Same, Under, RoleUnder, In, Link}
 use Rattle.reason.specs.declared.Fact.{Fact}
 use Rattle.reason.specs.declared.Kind.{Kind}
 use Rattle.reason.specs.declared.Kind.the-variants as kind
 use Rattle.reason.specs.declared.Route.{Route}
-use Rattle.reason.specs.Aim.{Joins}
-use Rattle.reason.specs.Code.{Coded, cellAt}
-use Rattle.reason.specs.Code.Coded.{coded}
-use Rattle.reason.specs.Fact.{Along, Found, Meets, factOf, kindAbove}
+use Rattle.reason.specs.own.Aim.{Joins}
+use Rattle.reason.specs.own.Code.{Coded, cellAt}
+use Rattle.reason.specs.own.Code.Coded.{coded}
+use Rattle.reason.specs.own.Fact.{Along, Found, Meets, factOf, kindAbove}
 use Rattle.reason.specs.Part.{Grows, Minimal}
-use Rattle.reason.specs.Picked.{pickedFrom}
-use Rattle.reason.specs.Walk.{CellStep}
-use Rattle.reason.specs.Walk.CellStep.{same, same-back, under, role, role-turned}
+use Rattle.reason.specs.own.Picked.{pickedFrom}
+use Rattle.reason.specs.own.Walk.{CellStep}
+use Rattle.reason.specs.own.Walk.CellStep.{same, same-back, under, role, role-turned}
 use Rattle.reason.specs.laws.Flag.{left-on}
 use Rattle.reason.specs.laws.Part.{part-one}
 use Rattle.reason.specs.laws.Picked.{picked-part}

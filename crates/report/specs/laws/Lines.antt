@@ -6,12 +6,12 @@ use Prim.Native.Nat.{ℕ, zero, suc, _-_, _/_, _%_, _≤_, _<_}
 use native.Mathlib.Omega.{arith}
 use lib.ListN.{length, getD, take, drop, length-take, List·getD-map, List·getD-eq-default}
 use lib.Seq.{getD-take}
-use Rattle.text.specs.Bytes.{partOf}
+use Rattle.text.specs.own.Split.{partOf}
 use Rattle.logic.specs.Number.{One}
 use Rattle.logic.specs.Number.One.{first, later}
 use Rattle.logic.specs.laws.Number.{one-cases, one-none}
-use Rattle.closure.specs.declared.Counts.{Counts}
-use Rattle.closure.specs.Cell.{Cell}
+use Rattle.store.specs.declared.Counts.{Counts}
+use Rattle.store.specs.Cell.{Cell}
 use Rattle.rule.specs.declared.Finding.{Finding}
 use Rattle.rule.specs.declared.Rule.{Rule}
 use Rattle.rule.specs.Findings.{Findings}
@@ -20,7 +20,8 @@ use Rattle.sheet.specs.Promise.{findingText, findingsText}
 use Rattle.sheet.specs.Said.{Said}
 use Rattle.field.specs.own.Table.{entered, nameAt}
 use Rattle.field.specs.laws.Tag.{tag-none, tagged-own, tagged-short}
-use Rattle.report.specs.Lines.{lineOf, lineText, linesText}
+use Rattle.report.specs.Promise.{lineOf}
+use Rattle.report.specs.own.Lines.{lineText, linesText}
 
 -- ---- names
 

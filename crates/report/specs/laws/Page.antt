@@ -1,28 +1,34 @@
 -- From the rules that are judged in turn to the page. Assumes nothing.
-use mathlib.Core.Path.{_≡_, sym, ap, _∙_}
+use mathlib.Core.Path.{_≡_, refl, sym, ap, _∙_, subst}
 use mathlib.Core.Bool.{true}
 use mathlib.Core.List.{List, [], _∷_, _++_}
 use Prim.Native.Nat.{ℕ, _+_, _≤_}
 use native.Mathlib.Omega.{arith}
-use borrow.Author.Tests.{eq-eqb, ne-eqb}
+use borrow.Author.Tests.{ne-eqb}
 use lib.ListN.{length}
 use lib.Seq.{sets}
 use Rattle.row.specs.Bit.{Words}
 use Rattle.text.specs.Text.{Wrote}
+use Rattle.store.specs.Layout.{size, width}
+use Rattle.store.specs.laws.Cells.{keeps-unique}
 use Rattle.sheet.specs.declared.Ended.{Ended}
 use Rattle.sheet.specs.declared.RuleLine.{RuleLine}
 use Rattle.field.specs.declared.Table.{Table}
 use Rattle.field.specs.Names.{countsOf}
 use Rattle.sheet.specs.own.Pass.{Judges, foundRule}
-use Rattle.sheet.specs.Promise.{Held, refusedText, totalText}
-use Rattle.sheet.specs.Promise.Prints.{refused}
-use Rattle.sheet.specs.Said.{Said, SheetRule, outcome}
-use Rattle.sheet.specs.Said.Outcome.{accepted as acceptedSheet}
+use Rattle.sheet.specs.declared.Reading.the-variants as reading
+use Rattle.sheet.specs.Promise.{FindingsIn, Held, Leaves, Prints, refusedText, totalText}
+use Rattle.sheet.specs.Promise.Prints.{refused, accepted}
+use Rattle.sheet.specs.Promise.Reads.{wrong-size as wrong-read, refused as refusedRead, accepted as acceptedRead}
+use Rattle.sheet.specs.Said.{Outcome, Said, SheetRule, outcome}
+use Rattle.sheet.specs.own.Stands.{Opens}
 use Rattle.field.specs.own.Table.{namesOf}
-use Rattle.sheet.specs.laws.Unique.{prints-unique}
+use Rattle.sheet.specs.laws.Unique.{prints-unique, reads-unique}
 use Rattle.sheet.specs.laws.Count.{Turn, opens-held, opens-judges, opens-outcome, turn-rules}
 use Rattle.report.specs.declared.Tally.{Tally}
-use Rattle.report.specs.Lines.{Filled, JudgedAll, Pages, Printed, Tallied}
+use Rattle.report.specs.own.Lines.{Filled, JudgedAll, Printed, Tallied}
+use Rattle.report.specs.Promise.{Pages, PagesIn, PrintsIn, ReadInto}
+use Rattle.report.specs.Promise.PrintsIn.{wrong-size, printed}
 use Rattle.report.specs.laws.Printed.{printed-all, printed-more}
 
 -- one rule more is judged, in its turn
@@ -46,8 +52,59 @@ module _ {sheet t : List ℕ} {e : Ended} (w : Filled sheet t e) where
         let a = printed-all o u (opens-held (w .opens) z) (j .printed (w .opens .said) o (w .opens .names)) h in
         record { text = a .0; prints = a .1; wrote = a .2; short = omega (arith, j .near) }
 
+-- ---- in a lent store
+
+-- the store is as reading the sheet leaves it
+leaves-read : {sheet s t text : List ℕ} → length s ≡ size width → Words 64 t → Leaves (outcome sheet) s t → Prints sheet text → ReadInto sheet s t
+leaves-read {s = s} {t = t} l v h (refused {n = n} {k = k} o) = record { answer = reading.Refused n k; reads = refusedRead l o (subst (λ (z : Outcome). Leaves z s t) o h) }
+leaves-read {s = s} {t = t} l v h (accepted {x = x} {fs = fs} o w d f) =
+    let e : Held x t = subst (λ (z : Outcome). Leaves z s t) o h in
+    record { answer = _; reads = acceptedRead l o e (subst (λ (z : List ℕ). FindingsIn x z fs) (keeps-unique w v d e) f) }
+
+-- a store of another length
+pub page-size : {sheet s room exit : List ℕ} {r : ℕ} → ¬ (length s ≡ size width) → Wrote room 0 (refusedText 0 1) exit r → r ≤ 0 + 50 → PagesIn sheet s s room exit r
+page-size z h l = record { text = refusedText 0 1; prints = wrong-size z; left = record { answer = reading.Refused 0 1; reads = wrong-read z refl }; wrote = h; short = omega arith }
+
+-- a store that the sheet was read into
+pub page-read : {sheet s t room exit : List ℕ} {e : Ended} {r : ℕ} → length s ≡ size width → Words 64 t → Opens sheet s t e → Pages sheet room exit r → PagesIn sheet s t room exit r
+page-read {s = s} {t = t} l v w p =
+    record {
+      text = p .text;
+      prints = printed l (p .prints);
+      left = leaves-read l v (subst (λ (z : Outcome). Leaves z s t) (sym (w .ends)) (w .leaves)) (p .prints);
+      wrote = p .wrote;
+      short = p .short;
+    }
+
+-- the text in a store of the right length is that of the sheet
+pub page-own : {sheet s t room exit : List ℕ} {r : ℕ} → length s ≡ size width → PagesIn sheet s t room exit r → Pages sheet room exit r
+page-own {sheet} {s} l p = record { text = p .text; prints = own (p .prints); wrote = p .wrote; short = p .short }
+  where
+    own : {text : List ℕ} → PrintsIn sheet s text → Prints sheet text
+    own (wrong-size z) = absurd (z l)
+    own (printed h q) = q
+
+-- ---- one result
+
+-- the text for a sheet and a store
+pub prints-in-unique : {sheet s text other : List ℕ} → PrintsIn sheet s text → PrintsIn sheet s other → text ≡ other
+prints-in-unique (wrong-size z) (wrong-size y) = refl
+prints-in-unique (wrong-size z) (printed l q) = absurd (z l)
+prints-in-unique (printed l q) (wrong-size z) = absurd (z l)
+prints-in-unique (printed l p) (printed h q) = prints-unique p q
+
+-- what reading leaves
+pub read-into-unique : {sheet s t u : List ℕ} → Words 64 t → Words 64 u → ReadInto sheet s t → ReadInto sheet s u → t ≡ u
+read-into-unique v w a b = reads-unique v w (a .reads) (b .reads) .0
+
+-- one text leaves one room and one length
+wrote-unique : {room text more exit other : List ℕ} {r q : ℕ} → text ≡ more → Wrote room 0 text exit r → Wrote room 0 more other q → (exit ≡ other) × (r ≡ q)
+wrote-unique {room = room} e a b = (a .here ∙ ap (λ (t : List ℕ). sets room 0 t) e ∙ sym (b .here), a .next ∙ ap (λ (t : List ℕ). 0 + length t) e ∙ sym (b .next))
+
 -- the page allows one result
 pub pages-unique : {sheet room exit other : List ℕ} {r q : ℕ} → Pages sheet room exit r → Pages sheet room other q → (exit ≡ other) × (r ≡ q)
-pages-unique {room = room} a b =
-    let e = prints-unique (a .prints) (b .prints) in
-    (a .wrote .here ∙ ap (λ (t : List ℕ). sets room 0 t) e ∙ sym (b .wrote .here), a .wrote .next ∙ ap (λ (t : List ℕ). 0 + length t) e ∙ sym (b .wrote .next))
+pages-unique a b = wrote-unique (prints-unique (a .prints) (b .prints)) (a .wrote) (b .wrote)
+
+-- so does the page in a lent store, with one store afterwards
+pub pages-in-unique : {sheet s t u room exit other : List ℕ} {r q : ℕ} → Words 64 t → Words 64 u → PagesIn sheet s t room exit r → PagesIn sheet s u room other q → (t ≡ u) × (exit ≡ other) × (r ≡ q)
+pages-in-unique v w a b = let e = wrote-unique (prints-in-unique (a .prints) (b .prints)) (a .wrote) (b .wrote) in (read-into-unique v w (a .left) (b .left), e .0, e .1)

@@ -1,27 +1,21 @@
 -- From the rules that are judged one after the other to the printed text of the sheet. Assumes nothing.
 use mathlib.Core.Path.{_≡_, refl, sym, ap, ap₂, _∙_, subst}
-use mathlib.Core.List.{List, [], _∷_, _++_, map, append-assoc, append-nil}
+use mathlib.Core.List.{List, [], _∷_, _++_, map}
 use Prim.Native.Nat.{ℕ, _+_, _*_, _-_, _≤_}
 use native.Mathlib.Omega.{arith}
 use lib.ListN.{length, getD, take, length-append}
 use Rattle.row.specs.Bit.{Words}
-use Rattle.closure.specs.declared.Counts.{Counts}
-use Rattle.closure.specs.Cell.{Cell}
-use Rattle.rule.specs.declared.Finding.{Finding}
-use Rattle.rule.specs.Findings.{Findings}
 use Rattle.text.specs.Text.{Wrote}
 use Rattle.text.specs.laws.Text.{wrote-none, wrote-then}
-use Rattle.field.specs.declared.Table.{Table}
 use Rattle.field.specs.Names.{countsOf}
-use Rattle.sheet.specs.Promise.{FindingsFrom, Held, Prints, findingsText, printLimit, totalText}
-use Rattle.sheet.specs.Promise.FindingsFrom.{none, more}
+use Rattle.sheet.specs.Promise.{Held, Prints, findingsText, printLimit, totalText}
+use Rattle.sheet.specs.Promise.FindingsFrom.{none}
 use Rattle.sheet.specs.Promise.Prints.{accepted}
 use Rattle.sheet.specs.Said.{Said, SheetRule, outcome}
-use Rattle.field.specs.own.Table.{Roomy, namesOf}
-use Rattle.field.specs.laws.Names.{entered-length}
 use Rattle.sheet.specs.Said.Outcome.{accepted as acceptedSheet}
 use Rattle.report.specs.declared.Tally.{Tally}
-use Rattle.report.specs.Lines.{Printed, Tallied, lineOf, linesText}
+use Rattle.report.specs.own.Lines.{Printed, Tallied, linesText}
+use Rattle.report.specs.Promise.{lineOf}
 use Rattle.sheet.specs.laws.Count.{findings-snoc}
 use Rattle.sheet.specs.laws.Few.{few-from}
 use Rattle.report.specs.laws.Lines.{findings-more, rule-lines}

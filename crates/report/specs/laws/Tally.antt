@@ -7,19 +7,20 @@ use native.Mathlib.Decide.{decLt}
 use native.Mathlib.Omega.{arith}
 use lib.ListN.{length, take}
 use lib.Seq.{take-all}
-use Rattle.closure.specs.declared.Counts.{Counts}
-use Rattle.closure.specs.declared.Layout.{Layout}
-use Rattle.closure.specs.Layout.{Holds, layoutOf, width}
+use Rattle.store.specs.declared.Counts.{Counts}
+use Rattle.store.specs.declared.Layout.{Layout}
+use Rattle.store.specs.Layout.{Holds, width}
+use Rattle.store.specs.own.Laid.{layoutOf}
 use Rattle.rule.specs.declared.Finding.{Finding}
-use Rattle.rule.specs.declared.Prepared.{Prepared}
+use Rattle.judge.specs.declared.Prepared.{Prepared}
 use Rattle.rule.specs.declared.Rule.{Rule}
 use Rattle.rule.specs.Findings.{Findings}
-use Rattle.rule.specs.Search.{Starts}
+use Rattle.judge.specs.own.Search.{Starts}
 use Rattle.text.specs.Text.{Wrote}
 use Rattle.field.specs.Names.{Names}
 use Rattle.report.specs.declared.Tally.{Tally}
 use Rattle.sheet.specs.own.Pass.{countedIn}
-use Rattle.report.specs.Lines.{RuleLines, Tallied, findingBound, linesText}
+use Rattle.report.specs.own.Lines.{RuleLines, Tallied, findingBound, linesText}
 
 -- the first ones as far as they reach
 take-min : (k : ℕ) (fs : List Finding) → take (min (length fs) k) fs ≡ take k fs

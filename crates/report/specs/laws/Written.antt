@@ -7,13 +7,13 @@ use native.Mathlib.Omega.{arith}
 use lib.ListN.{length, getD, take, drop}
 use lib.Seq.{drop-cons, take-suc}
 use Rattle.rule.specs.declared.Finding.{Finding}
-use Rattle.rule.specs.declared.Search.{Search}
-use Rattle.rule.specs.Search.{Coming, Stepped}
-use Rattle.rule.specs.laws.Search.{coming-first}
+use Rattle.judge.specs.declared.Search.{Search}
+use Rattle.judge.specs.own.Search.{Coming, Stepped}
+use Rattle.judge.specs.laws.Search.{coming-first}
 use Rattle.text.specs.Text.{Wrote}
 use Rattle.text.specs.laws.Text.{wrote-none, wrote-then}
 use Rattle.field.specs.Names.{Names}
-use Rattle.report.specs.Lines.{RuleLines, lineText, linesText}
+use Rattle.report.specs.own.Lines.{RuleLines, lineText, linesText}
 use Rattle.report.specs.laws.Lines.{lines-append}
 
 -- i findings are written, and the others are still to come: the search that began at first stands at c

@@ -14,7 +14,8 @@ use lib.Pow.{pow-pos, pow-mono, shr-shr, shr-lt, shr-le, split}
 use lib.Bits.{and-le-l, bitOr, bitAnd, or-step, and-step, or-shr, and-shr}
 use lib.Count.{ones, ones-step}
 use lib.ListN.{getD}
-use Rattle.row.specs.Bit.{Has, hasb, lowBits}
+use Rattle.row.specs.Bit.{Has}
+use Rattle.row.specs.own.Bit.{hasb, lowBits}
 
 two-pos : zero < 2
 two-pos = zero-lt-suc 1
@@ -285,3 +286,11 @@ low-all n l = let e : 64 ≡ min n 64 = omega arith in ap (λ (k : ℕ). 2 ^ k -
 pub low-some : (n : ℕ) → n < 64 → 2 ^ n - 1 ≡ lowBits n
 unfolding lowBits
 low-some n l = let e : n ≡ min n 64 = omega arith in ap (λ (k : ℕ). 2 ^ k - 1) e
+
+-- a bit of a word that is shifted down
+pub shift-has : (w n : ℕ) {k : ℕ} → Has (w / 2 ^ n) k → Has w (n + k)
+shift-has w n {k} x = record { bit = ap (λ (y : ℕ). y % 2) (sym (shr-shr w n k)) ∙ x .bit }
+
+-- and a bit of the word as one of the word shifted down
+pub has-shift : (w n : ℕ) {k : ℕ} → Has w (n + k) → Has (w / 2 ^ n) k
+has-shift w n {k} x = record { bit = ap (λ (y : ℕ). y % 2) (shr-shr w n k) ∙ x .bit }

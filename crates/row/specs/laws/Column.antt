@@ -8,9 +8,9 @@ use native.Mathlib.Decide.{ℕ-discrete, decLt}
 use lib.ListN.{getD, set, length-set, replicate}
 use lib.Seq.{getD-set-same, getD-set-other}
 use Rattle.row.specs.Bit.{Has}
-use Rattle.row.specs.Row.{RowHas}
-use Rattle.row.specs.Change.{gathered}
-use Rattle.row.specs.Pick.{Column, room}
+use Rattle.row.specs.own.Row.{RowHas}
+use Rattle.row.specs.own.Change.{gathered}
+use Rattle.row.specs.own.Pick.{Column, room}
 use Rattle.row.specs.laws.Bit.{at-place, moved, zero-none}
 use Rattle.row.specs.laws.Gather.{gathered-has, has-gathered}
 use Rattle.row.specs.laws.Together.{together-none}

@@ -6,9 +6,9 @@ use mathlib.Core.List.{List}
 use Prim.Native.Nat.{ℕ, _+_, _*_, _≤_, _<_}
 use native.Mathlib.Omega.{arith}
 use native.Mathlib.Decide.{ℕ-discrete}
-use Rattle.logic.specs.Decides.{Decides}
-use Rattle.row.specs.Row.{RowHas}
-use Rattle.row.specs.Pick.{AllBelow, Among, Empty, Marked, Marks, Met, Without, room}
+use Rattle.logic.specs.own.Decides.{Decides}
+use Rattle.row.specs.own.Row.{RowHas}
+use Rattle.row.specs.own.Pick.{AllBelow, Empty, Marked, Marks, Met, Without, room}
 
 -- an empty row marks all that there is below 0
 pub marks-none : {r : List ℕ} {P : ℕ → Type 0} → Empty r → Marks 0 r P
@@ -50,13 +50,9 @@ marks-ever a f = record { sound = λ x h. let l = a .only x h in (l, f x l); who
 pub marks-rest : {n : ℕ} {all p r : List ℕ} → n ≤ 64 * room → AllBelow n all → Without all p r → Marks n r (λ x. ¬ (RowHas p x))
 marks-rest small a w = record { sound = λ x h. (a .only x (w .left x h), w .right x h); whole = λ x l p. w .has x (omega arith) (a .has x l) p }
 
--- what two rows have
-pub among-met : {n : ℕ} {p q r : List ℕ} → n ≤ 64 * room → Met p q r → Among n r (λ x. RowHas p x × RowHas q x)
-among-met small m = record { sound = λ x l h. (m .left x h, m .right x h); whole = λ x l h. m .has x (omega arith) (h .0) (h .1) }
-
--- a row without its numbers from n on
-pub marks-cut : {n : ℕ} {all s r : List ℕ} {P : ℕ → Type 0} → n ≤ 64 * room → AllBelow n all → Among n s P → Met all s r → Marks n r P
-marks-cut small a f m = record {
-  sound = λ x h. let l = a .only x (m .left x h) in (l, f .sound x l (m .right x h));
-  whole = λ x l p. m .has x (omega arith) (a .has x l) (f .whole x l p);
+-- the numbers below n that two rows have
+pub marks-shared : {n : ℕ} {all p q both r : List ℕ} → n ≤ 64 * room → AllBelow n all → Met p q both → Met all both r → Marks n r (λ x. RowHas p x × RowHas q x)
+marks-shared small a m t = record {
+  sound = λ x h. let b = t .right x h in (a .only x (t .left x h), (m .left x b, m .right x b));
+  whole = λ x l h. t .has x (omega arith) (a .has x l) (m .has x (omega arith) (h .0) (h .1));
 }

@@ -10,17 +10,17 @@ use native.Mathlib.Decide.{ℕ-discrete, decLt}
 use lib.Arith.{digits-mod}
 use lib.Bits.{bitAnd, bitXor, differ, xor-step, xor-shr}
 use lib.Count.{trailingZeros, under}
-use lib.ListN.{length, getD, set, length-set, List·getD-eq-default, replicate, length-replicate, getD-replicate}
+use lib.ListN.{length, getD, set, length-set, List·getD-eq-default, length-replicate}
 use lib.Seq.{getD-set-same, getD-set-other}
-use Rattle.logic.specs.Decides.{Decides}
-use Rattle.row.specs.Bit.{Has, hasb, lowBits, LowestBit}
-use Rattle.row.specs.Row.{RowHas}
-use Rattle.row.specs.Change.{orIf, diagW}
-use Rattle.row.specs.Pick.{AllBelow, Alone, Marked, Met, Without, room, Least, Next, Empty}
-use Rattle.row.specs.laws.Bit.{has?, moved, at-place, zero-none, half-has, and-has, and-left, and-right, has-pow, pow-has, at-bit, has-half, hasb-has, hasb-not, low-has, has-low}
-use Rattle.row.specs.laws.Below.{shift-has, has-shift}
+use Rattle.logic.specs.own.Decides.{Decides}
+use Rattle.row.specs.Bit.{Has}
+use Rattle.row.specs.own.Bit.{hasb, lowBits, LowestBit}
+use Rattle.row.specs.own.Row.{RowHas}
+use Rattle.row.specs.own.Change.{orIf, diagW}
+use Rattle.row.specs.own.Pick.{AllBelow, Alone, Marked, Met, Without, room, Least, Next, Empty}
+use Rattle.row.specs.laws.Bit.{has?, moved, at-place, zero-none, half-has, and-has, and-left, and-right, has-pow, pow-has, at-bit, has-half, hasb-has, hasb-not, low-has, has-low, shift-has, has-shift}
 use Rattle.row.specs.laws.Diagonal.{diagW-on, diagW-off}
-use Rattle.row.specs.laws.Rows.{orIf-has, orIf-keeps, orIf-gets}
+use Rattle.row.specs.laws.Rows.{zero-word, zeros, orIf-has, orIf-keeps, orIf-gets}
 
 -- ---- a bit set
 
@@ -203,8 +203,9 @@ none-more r h f l x lx b = go (decLt x (h * 64))
         trailing-none 64 (getD r h 0) (x % 64) (omega arith) (at-place r e b)
 
 -- the lowest bit of the first word that has one
-pub least-here : (r : List ℕ) (h : ℕ) → NoneBelow r h → trailingZeros 64 (getD r h 0) < 64 → Least r (h * 64 + trailingZeros 64 (getD r h 0))
-least-here r h f l = record {
+pub least-here : (r : List ℕ) (h : ℕ) → h < room → NoneBelow r h → trailingZeros 64 (getD r h 0) < 64 → Least r (h * 64 + trailingZeros 64 (getD r h 0))
+least-here r h s f l = record {
+  within = omega (arith, l);
   found = λ y. at-place r (sym word) (at-bit (sym bit) (trailing-has 64 (getD r h 0) l));
   least = λ x lx b. go x lx b (decLt x (h * 64));
 }
@@ -226,7 +227,7 @@ least-here r h f l = record {
 
 -- no word has one
 pub least-none : (r : List ℕ) (h : ℕ) → NoneBelow r h → room ≤ h → Least r (64 * room)
-least-none r h f l = record { found = λ y. absurd (omega arith); least = λ x lx. f x (omega arith) }
+least-none r h f l = record { within = omega arith; found = λ y. absurd (omega arith); least = λ x lx. f x (omega arith) }
 
 -- ---- the next bit
 
@@ -278,32 +279,20 @@ next-none r x at count f h l = record { from = h; within = omega arith; found = 
 
 -- ---- no bit, and the test of one
 
--- a row of words that are all 0
-abbrev zeros : List ℕ
-zeros = replicate room 0
-
--- each word of it is 0
-zero-word : (i : ℕ) → getD zeros i 0 ≡ 0
-zero-word i = go (decLt i room)
-  where
-    go : Dec (i < room) → getD zeros i 0 ≡ 0
-    go (yes l) = getD-replicate room i 0 0 l
-    go (no l) = List·getD-eq-default zeros 0 {n = i} (omega (arith, length-replicate {A = ℕ} room 0))
-
 -- words that are all 0 have no bit
-pub empty-zero : Empty zeros
-empty-zero = record { len = refl; none = λ x h. zero-none (moved (zero-word (x / 64)) h) }
+pub empty-zero : Empty (zeros room)
+empty-zero = record { len = refl; none = λ x h. zero-none (moved (zero-word room (x / 64)) h) }
 
 -- words that are all 0, but for the bit of x
-pub alone-set : {v : ℕ} (x : ℕ) → x < 64 * room → v ≡ 2 ^ (x % 64) → Alone x (set zeros (x / 64) v)
-alone-set {v} x l e = record { len = length-set zeros (x / 64) v; words = λ h. go h (ℕ-discrete h (x / 64)) }
+pub alone-set : {v : ℕ} (x : ℕ) → x < 64 * room → v ≡ 2 ^ (x % 64) → Alone x (set (zeros room) (x / 64) v)
+alone-set {v} x l e = record { len = length-set (zeros room) (x / 64) v; words = λ h. go h (ℕ-discrete h (x / 64)) }
   where
-    go : (h : ℕ) → Dec (h ≡ x / 64) → getD (set zeros (x / 64) v) h 0 ≡ diagW x h
+    go : (h : ℕ) → Dec (h ≡ x / 64) → getD (set (zeros room) (x / 64) v) h 0 ≡ diagW x h
     go h (yes p) =
-        ap (λ (i : ℕ). getD (set zeros (x / 64) v) i 0) p
-        ∙ getD-set-same zeros (x / 64) v 0 (omega (arith, length-replicate {A = ℕ} room 0))
+        ap (λ (i : ℕ). getD (set (zeros room) (x / 64) v) i 0) p
+        ∙ getD-set-same (zeros room) (x / 64) v 0 (omega (arith, length-replicate {A = ℕ} room 0))
         ∙ diagW-on x h v p e
-    go h (no p) = getD-set-other zeros (x / 64) h v 0 p ∙ zero-word h ∙ diagW-off x h p
+    go h (no p) = getD-set-other (zeros room) (x / 64) h v 0 p ∙ zero-word room h ∙ diagW-off x h p
 
 -- the test of a bit decides
 pub decides-has : {b : Bool} (w k : ℕ) → b ≡ hasb w k → Decides b (Has w k)

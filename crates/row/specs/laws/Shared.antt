@@ -1,14 +1,14 @@
 -- Laws of the test whether two rows have a number in common. Assumes nothing.
 use mathlib.Core.Path.{_≡_, sym, ap}
 use mathlib.Core.List.{List}
-use Prim.Native.Nat.{ℕ, _+_, _*_, _/_, _%_, _^_, _≤_, _<_}
+use Prim.Native.Nat.{ℕ, _+_, _*_, _/_, _%_, _^_, _<_}
 use native.Mathlib.Omega.{arith}
 use native.Mathlib.Decide.{decLt}
 use lib.Bits.{bitAnd}
 use lib.Count.{trailingZeros}
 use lib.ListN.{getD}
 use Rattle.row.specs.Bit.{Has}
-use Rattle.row.specs.Pick.{Shared}
+use Rattle.row.specs.own.Pick.{Shared}
 use Rattle.row.specs.laws.Bit.{and-has, and-left, and-right, at-bit, at-place, has-lt, moved, no-bits, zero-none}
 use Rattle.row.specs.laws.Pick.{trailing-has, trailing-none}
 

@@ -6,30 +6,19 @@ use Prim.Native.Nat.{ℕ, _+_, _*_, _/_, _%_, _≤_, _<_}
 use native.Mathlib.Omega.{arith}
 use native.Mathlib.Decide.{ℕ-discrete, decLt}
 use lib.Bits.{bitOr}
-use lib.ListN.{getD, set, length-set, replicate, getD-replicate, length-replicate, List·getD-eq-default}
+use lib.ListN.{getD, set, length-set}
 use lib.Seq.{getD-set-same, getD-set-other}
 use Rattle.row.specs.Bit.{Has}
-use Rattle.row.specs.Row.{RowHas}
-use Rattle.row.specs.Pick.{room, Together}
-use Rattle.row.specs.Change.{TakenOn, takeOn}
+use Rattle.row.specs.own.Row.{RowHas}
+use Rattle.row.specs.own.Pick.{room, Together}
+use Rattle.row.specs.own.Change.{TakenOn, takeOn}
 use Rattle.row.specs.laws.Bit.{moved, zero-none, has-or, or-left, or-right}
+use Rattle.row.specs.laws.Rows.{zero-word, zeros}
 use Rattle.row.specs.laws.Mapped.{mapped-part}
 
-zeros : List ℕ
-zeros = replicate room 0
-
-zeros-word : (i : ℕ) → getD zeros i 0 ≡ 0
-unfolding zeros
-zeros-word i = go (decLt i room)
-  where
-    go : Dec (i < room) → getD zeros i 0 ≡ 0
-    go (yes l) = getD-replicate room i 0 0 l
-    go (no l) = List·getD-eq-default zeros 0 {n = i} (omega (arith, length-replicate {A = ℕ} room 0))
-
 -- before the first word
-pub together-none : (s r : List ℕ) (from : ℕ) → Together s from 0 r (replicate room 0)
-unfolding zeros
-together-none s r from = record { len = refl; words = λ h l. absurd (omega arith); rest = λ h l. zeros-word h }
+pub together-none : (s r : List ℕ) (from : ℕ) → Together s from 0 r (zeros room)
+together-none s r from = record { len = refl; words = λ h l. absurd (omega arith); rest = λ h l. zero-word room h }
 
 -- one word more
 pub together-more : {s r t : List ℕ} {from h v : ℕ} → Together s from h r t → h < room → v ≡ bitOr (getD r h 0) (getD s (from + h) 0) → Together s from (h + 1) r (set t h v)

@@ -8,7 +8,8 @@ use native.Mathlib.Numerals.{add-one}
 use lib.ListN.{length, getD, set, take}
 use lib.Seq.{ext-getD, take-suc, take-all}
 use lib.Count.{ones}
-use Rattle.row.specs.Bit.{total, Words, Part}
+use Rattle.row.specs.Bit.{total, Words}
+use Rattle.row.specs.own.Bit.{Part}
 use Rattle.row.specs.laws.Bit.{word-ext, ones-part}
 
 -- one word changed

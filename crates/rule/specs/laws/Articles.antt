@@ -11,9 +11,9 @@ use Rattle.logic.specs.Number.{One, Distinct}
 use Rattle.logic.specs.Number.One.{first, later}
 use Rattle.logic.specs.Number.Distinct.{none as no-other, more as one-more}
 use Rattle.logic.specs.laws.Number.{one-cases, one-none, length-le}
-use Rattle.closure.specs.declared.Counts.{Counts}
-use Rattle.closure.specs.Cell.{Cell, Obeys, DeclaredItem}
-use Rattle.closure.specs.Cell.Cell.{Same}
+use Rattle.store.specs.declared.Counts.{Counts}
+use Rattle.store.specs.Cell.{Cell, Obeys, DeclaredItem}
+use Rattle.store.specs.Cell.Cell.{Same}
 use Rattle.rule.specs.Meaning.{Different, Articles}
 use Rattle.rule.specs.Meaning.Different.{none, more}
 
@@ -165,3 +165,7 @@ module _ {C : Cell → Type 0} {n : Counts} (o : Obeys n C) (C? : (c : Cell) →
           tell : Dec (length (r .items) < k) → Dec (Articles C n k P)
           tell (yes l) = no (λ a. omega (arith, a .count, cover-le o (a .different) (λ y q. let p = a .each y q in r .covers y (p .0) (p .1))))
           tell (no l) = yes (fewer-articles k (r .different) (omega arith) (r .each))
+
+-- what means the same for declared items has the same articles
+pub articles-iff : {C : Cell → Type 0} {n : Counts} {k : ℕ} {P Q : ℕ → Type 0} → ((b : ℕ) → DeclaredItem n b → P b → Q b) → Articles C n k P → Articles C n k Q
+articles-iff f a = record { items = a .items; count = a .count; each = λ b q. let p = a .each b q in (p .0, f b (p .0) (p .1)); different = a .different }

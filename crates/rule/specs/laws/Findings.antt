@@ -9,8 +9,8 @@ use Rattle.logic.specs.Number.{One, Distinct, Number}
 use Rattle.logic.specs.Number.One.{first, later}
 use Rattle.logic.specs.Number.Distinct.{none as distinct-none, more as distinct-more}
 use Rattle.logic.specs.laws.Number.{one-cases, one-none}
-use Rattle.closure.specs.declared.Counts.{Counts}
-use Rattle.closure.specs.Cell.{Cell}
+use Rattle.store.specs.declared.Counts.{Counts}
+use Rattle.store.specs.Cell.{Cell}
 use Rattle.rule.specs.declared.Finding.{Finding}
 use Rattle.rule.specs.declared.Rule.{Rule}
 use Rattle.rule.specs.declared.Second.{Second}

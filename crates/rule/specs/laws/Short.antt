@@ -9,16 +9,16 @@ use lib.ListN.{length}
 use Rattle.logic.specs.Number.{One}
 use Rattle.logic.specs.Number.One.{first}
 use Rattle.logic.specs.laws.Number.{one-cases, one-none}
-use Rattle.closure.specs.declared.Counts.{Counts}
-use Rattle.closure.specs.Cell.{Cell, DeclaredItem}
-use Rattle.closure.specs.Layout.{ClosedStore, Holds}
+use Rattle.store.specs.declared.Counts.{Counts}
+use Rattle.store.specs.Cell.{Cell, DeclaredItem}
+use Rattle.store.specs.Layout.{ClosedStore, Holds}
 use Rattle.rule.specs.declared.RoleUse.{RoleUse}
 use Rattle.rule.specs.Expr.{Expr, bot, either, some, every, atMost}
 use Rattle.rule.specs.Expr.Expr.{neg}
 use Rattle.rule.specs.Meaning.{Linked, Different, Articles, HoldsOf}
 use Rattle.rule.specs.Meaning.Different.{none, more}
 use Rattle.rule.specs.laws.Articles.{fewer-articles}
-use Rattle.rule.specs.laws.Holding.{store-holdsOf?}
+use Rattle.rule.specs.laws.Told.{store-holdsOf?}
 
 -- a declared item that is linked from x and has the expression
 abbrev pub LinkedWith : (Cell → Type 0) → Counts → RoleUse → Expr → ℕ → ℕ → Type 0

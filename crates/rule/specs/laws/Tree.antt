@@ -4,7 +4,7 @@ use mathlib.Core.List.{List}
 use Prim.Native.Nat.{ℕ, zero, suc, _+_, _-_, _≤_, _<_}
 use native.Mathlib.Numerals.{sub-one}
 use native.Mathlib.Omega.{arith}
-use Rattle.closure.specs.declared.Item.{Item}
+use Rattle.store.specs.declared.Item.{Item}
 use Rattle.rule.specs.declared.Head.the-variants.{Sub, In}
 use Rattle.rule.specs.declared.Node.{Node}
 use Rattle.rule.specs.declared.Node.the-variants.{Name, Top, Not, And, AtLeast, SelfOf, One}

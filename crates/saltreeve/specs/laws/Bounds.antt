@@ -11,9 +11,9 @@ use Rattle.text.specs.Bytes.{every, same}
 use Rattle.text.specs.Date.{dateShaped}
 use Rattle.text.specs.Name.{isName, lineByte}
 use Rattle.text.specs.Split.{fields, split}
-use Rattle.closure.specs.declared.Counts.{Counts}
-use Rattle.closure.specs.Cell.{Cell}
-use Rattle.closure.specs.Layout.{conceptLimit, itemLimit, roleLimit, width}
+use Rattle.store.specs.declared.Counts.{Counts}
+use Rattle.store.specs.Cell.{Cell}
+use Rattle.store.specs.Layout.{conceptLimit, itemLimit, roleLimit, width}
 use Rattle.rule.specs.declared.Node.{Node}
 use Rattle.rule.specs.declared.Node.the-variants as node
 use Rattle.rule.specs.declared.Rule.{Rule}

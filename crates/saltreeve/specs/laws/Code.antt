@@ -5,11 +5,11 @@ use Prim.Native.Nat.{ℕ}
 use native.Mathlib.Omega.{arith}
 use lib.IntN.{ℤ}
 use Rattle.row.specs.Bit.{Words}
-use Rattle.closure.specs.declared.Counts.{Counts}
+use Rattle.store.specs.declared.Counts.{Counts}
 use Rattle.closure.specs.declared.Answer.{Answer}
 use Rattle.closure.specs.declared.Answer.the-variants.{Cells, Refused}
-use Rattle.closure.specs.Cell.{Cell}
-use Rattle.closure.specs.Layout.{width}
+use Rattle.store.specs.Cell.{Cell}
+use Rattle.store.specs.Layout.{width}
 use Rattle.closure.specs.Promise.{Makes, Adds}
 use Rattle.closure.specs.laws.Refusals.{makes-unique, adds-unique, makes-small, adds-small}
 use Rattle.saltreeve.specs.Code.{codeOf, Small, FreshCode, AddCode}

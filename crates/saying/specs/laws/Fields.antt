@@ -5,7 +5,7 @@ use Prim.Native.Nat.{ℕ, zero, suc, _-_, _≤_, _<_}
 use native.Mathlib.Omega.{arith}
 use lib.ListN.{drop, length}
 use lib.Seq.{drop-nil}
-use Rattle.text.specs.Split.{fieldFrom, partsFrom, pastField}
+use Rattle.text.specs.own.Split.{fieldFrom, partsFrom, pastField}
 use Rattle.text.specs.laws.Choice.{le-cases}
 use Rattle.text.specs.laws.Split.{field-none, fields-next, fields-none, past-none}
 use Rattle.field.specs.Words.{at}

@@ -6,8 +6,8 @@ use Prim.Native.Nat.{ℕ, suc, _+_, _≤_, _<_, max, min}
 use native.Mathlib.Omega.{arith}
 use lib.ListN.{drop, length, length-append}
 use Rattle.text.specs.Bytes.{place}
-use Rattle.closure.specs.declared.Counts.{Counts}
-use Rattle.closure.specs.declared.Item.{Item}
+use Rattle.store.specs.declared.Counts.{Counts}
+use Rattle.store.specs.declared.Item.{Item}
 use Rattle.rule.specs.declared.Head.{Head}
 use Rattle.rule.specs.declared.Head.the-variants as head
 use Rattle.rule.specs.declared.Node.{Node}
@@ -28,6 +28,7 @@ use Rattle.saying.specs.laws.Nodes.{nodes-length}
 use Rattle.saying.specs.laws.Parse.{size-some}
 use Rattle.saying.specs.laws.Read.{Reader, read-right}
 use Rattle.saying.specs.laws.Within.{Sound, SoundReader, read-sound}
+use Rattle.store.specs.Cell.{DeclaredItem}
 
 -- what a rule of a sheet is judged by
 pub record Good (n : Counts) (u : Rule) : Type 0 where
@@ -62,7 +63,7 @@ module _ (n : Counts) (h : Head) (xs : List Node) (small : length xs ≤ nodeLim
 
 -- a rule with one expression, and with two
 module _ (n : Counts) (c : Expr) (sound : Sound n c) where
-  in-good : (a : Item) → size c ≤ nodeLimit → a .0 < n .items → Good n (withOne (λ r. head.In r a) c)
+  in-good : (a : Item) → size c ≤ nodeLimit → DeclaredItem n (a .0) → Good n (withOne (λ r. head.In r a) c)
   in-good a small w =
       let l = nodes-length 0 c in
       rw l at

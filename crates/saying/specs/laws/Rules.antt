@@ -7,11 +7,11 @@ use native.Mathlib.Omega.{arith}
 use borrow.Author.Tests.{le-leb}
 use lib.ListN.{drop, length, length-drop}
 use lib.Seq.{sets, take-all}
-use Rattle.text.specs.Bytes.{partOf}
-use Rattle.text.specs.Split.{partsFrom, split}
+use Rattle.text.specs.own.Split.{partOf, partsFrom}
+use Rattle.text.specs.Split.{split}
 use Rattle.text.specs.laws.Split.{parts-none}
 use Rattle.rule.specs.declared.Head.the-variants as head
-use Rattle.closure.specs.declared.Item.{Item}
+use Rattle.store.specs.declared.Item.{Item}
 use Rattle.field.specs.declared.Due.the-variants as due
 use Rattle.saying.specs.declared.Parsed.{Parsed}
 use Rattle.field.specs.declared.RuleWord.the-variants as rule

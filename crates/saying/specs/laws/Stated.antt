@@ -4,7 +4,7 @@ use mathlib.Core.Bool.{false}
 use mathlib.Core.List.{List, [], _∷_}
 use Prim.Native.Nat.{ℕ, suc}
 use lib.ListN.{length, drop}
-use Rattle.closure.specs.Cell.{Within, cellOf}
+use Rattle.store.specs.Cell.{Within, cellOf}
 use Rattle.field.specs.declared.Due.{Due}
 use Rattle.field.specs.declared.Due.the-variants as due
 use Rattle.field.specs.declared.Form.the-variants as form

@@ -8,7 +8,7 @@ use borrow.Author.Tests.{leb-true, not-false}
 use lib.Dec.{eqb, leb}
 use lib.ListN.{drop, length, length-drop}
 use Rattle.text.specs.Bytes.{between, place}
-use Rattle.closure.specs.declared.Counts.{Counts}
+use Rattle.store.specs.declared.Counts.{Counts}
 use Rattle.rule.specs.Expr.{Expr}
 use Rattle.rule.specs.Expr.Expr.{both, many, name, neg, one, own, top}
 use Rattle.rule.specs.Form.{countLimit}
@@ -23,6 +23,7 @@ use Rattle.field.specs.Words.{at, Field, operatorOf}
 use Rattle.field.specs.laws.Words.{not-reserved}
 use Rattle.field.specs.laws.Right.{Right, fault-none, item-declared, lower-zeros, name-declared, right-first, role-use-declared}
 use Rattle.saying.specs.laws.Read.{Reader, drop-two, read-right}
+use Rattle.store.specs.Cell.{DeclaredItem}
 
 -- the numbers of an expression are below their counts, and its counts are 1 to 8
 unfoldable pub Sound : Counts → Expr → Type 0
@@ -32,7 +33,7 @@ Sound n (neg c) = Sound n c
 Sound n (both c d) = Sound n c × Sound n d
 Sound n (many k u c) = (1 ≤ k) × (k ≤ countLimit) × (u .role .0 < n .roles) × Sound n c
 Sound n (own u) = u .role .0 < n .roles
-Sound n (one a) = a .0 < n .items
+Sound n (one a) = DeclaredItem n (a .0)
 
 module _ (n : Names) (f : Field) where
   -- a concept in an expression

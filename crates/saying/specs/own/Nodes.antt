@@ -5,7 +5,7 @@ use mathlib.Core.List.{List, [], _∷_, map}
 use Prim.Native.Nat.{ℕ, _+_, _≤_}
 use lib.ListN.{drop, length, set}
 use lib.Seq.{sets}
-use Rattle.text.specs.Split.{partsFrom}
+use Rattle.text.specs.own.Split.{partsFrom}
 use Rattle.rule.specs.Form.{nodeLimit}
 use Rattle.field.specs.declared.Due.{Due}
 use Rattle.field.specs.declared.Due.the-variants as due

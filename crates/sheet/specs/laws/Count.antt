@@ -6,15 +6,16 @@ use Prim.Native.Nat.{ℕ, _+_, _≤_}
 use native.Mathlib.Omega.{arith}
 use borrow.Author.Tests.{eq-eqb, ne-eqb}
 use lib.ListN.{length, length-append}
-use Rattle.closure.specs.declared.Counts.{Counts}
-use Rattle.closure.specs.declared.Layout.{Layout}
-use Rattle.closure.specs.Cell.{Cell}
-use Rattle.closure.specs.Layout.{Holds, layoutOf, size, width}
+use Rattle.store.specs.declared.Counts.{Counts}
+use Rattle.store.specs.declared.Layout.{Layout}
+use Rattle.store.specs.Cell.{Cell}
+use Rattle.store.specs.Layout.{Holds, size, width}
+use Rattle.store.specs.own.Laid.{layoutOf}
 use Rattle.rule.specs.declared.Finding.{Finding}
-use Rattle.rule.specs.declared.Prepared.{Prepared}
+use Rattle.judge.specs.declared.Prepared.{Prepared}
 use Rattle.rule.specs.declared.Rule.{Rule}
 use Rattle.rule.specs.Findings.{Findings}
-use Rattle.rule.specs.Search.{Starts}
+use Rattle.judge.specs.own.Search.{Starts}
 use Rattle.sheet.specs.declared.Ended.{Ended}
 use Rattle.line.specs.declared.Marks.{Marks}
 use Rattle.sheet.specs.declared.Reading.the-variants as reading
@@ -28,10 +29,10 @@ use Rattle.sheet.specs.Promise.Reads.{wrong-size, refused as refusedRead
 use Rattle.sheet.specs.Said.{Outcome, Said, SheetRule, outcome}
 use Rattle.sheet.specs.Said.Outcome.{accepted, refused}
 use Rattle.sheet.specs.own.Stands.{Opens}
-use Rattle.field.specs.own.Table.{Roomy, namesOf}
-use Rattle.sheet.specs.laws.Few.{few-findings}
+use Rattle.field.specs.own.Table.{Roomy, namesOf, Places}
+use Rattle.rule.specs.laws.Few.{few-findings}
 use Rattle.sheet.specs.laws.Pass.{not-both, passing-rest, saidOf}
-use Rattle.sheet.specs.laws.Stands.{Places, counts-of}
+use Rattle.sheet.specs.laws.Stands.{counts-of}
 
 -- ---- going through the rules
 

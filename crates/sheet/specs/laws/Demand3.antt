@@ -6,14 +6,14 @@ use Prim.Native.Nat.{ℕ, suc}
 use lib.ListN.{length}
 use Rattle.logic.specs.Number.{One}
 use Rattle.row.specs.Bit.{Words}
-use Rattle.closure.specs.declared.Counts.{Counts}
-use Rattle.closure.specs.declared.Statement.{Statement}
-use Rattle.closure.specs.Cell.{Cell}
-use Rattle.closure.specs.Layout.{size, width}
+use Rattle.store.specs.declared.Counts.{Counts}
+use Rattle.store.specs.declared.Statement.{Statement}
+use Rattle.store.specs.Cell.{Cell}
+use Rattle.store.specs.Layout.{size, width}
 use Rattle.closure.specs.Lines.{Stated}
 use Rattle.closure.specs.Lines.Stated.{stated}
-use Rattle.closure.specs.Promise.{Keeps}
-use Rattle.closure.specs.laws.Refusals.{keeps-unique}
+use Rattle.store.specs.Keeps.{Keeps}
+use Rattle.store.specs.laws.Cells.{keeps-unique}
 use Rattle.sheet.specs.declared.Reading.{Reading}
 use Rattle.sheet.specs.Demand3.{SameStatements, SheetDemand3}
 use Rattle.line.specs.Fault.{begun}

@@ -6,8 +6,7 @@ use native.Mathlib.Omega.{arith}
 use borrow.Author.Tests.{eq-eqb, ne-eqb}
 use lib.ListN.{length, length-drop}
 use lib.Seq.{length-take-le}
-use Rattle.text.specs.Bytes.{partOf}
-use Rattle.text.specs.Split.{endOf, partsFrom}
+use Rattle.text.specs.own.Split.{partOf, endOf, partsFrom}
 use Rattle.text.specs.laws.Split.{end-ge, end-le, parts-next, parts-none}
 use Rattle.sheet.specs.declared.Kept.{Kept}
 use Rattle.line.specs.Fault.{lineFault, sheetLimit}

@@ -7,8 +7,9 @@ use native.Mathlib.Omega.{arith}
 use borrow.Author.Tests.{eqb-true, leb-true}
 use lib.Dec.{eqb, leb}
 use lib.ListN.{length}
-use Rattle.text.specs.Bytes.{partOf, same}
-use Rattle.text.specs.Split.{endOf, fields, partsFrom, split}
+use Rattle.text.specs.own.Split.{partOf, endOf, partsFrom}
+use Rattle.text.specs.Bytes.{same}
+use Rattle.text.specs.Split.{fields, split}
 use Rattle.text.specs.laws.Split.{end-ge, end-le, parts-all, parts-next, parts-none}
 use Rattle.field.specs.declared.Form.{Form}
 use Rattle.field.specs.declared.Form.the-variants as form

@@ -6,11 +6,10 @@ use native.Mathlib.Omega.{arith}
 use borrow.Author.Tests.{eq-eqb, le-leb, lt-leb, ne-eqb}
 use lib.ListN.{getD-replicate, length, length-replicate, replicate}
 use lib.Seq.{ext-getD}
-use Rattle.row.specs.Change.{Zeroed}
-use Rattle.text.specs.Bytes.{partOf}
-use Rattle.text.specs.Split.{endOf, partsFrom}
+use Rattle.row.specs.own.Change.{Zeroed}
+use Rattle.text.specs.own.Split.{partOf, endOf, partsFrom}
 use Rattle.text.specs.laws.Split.{parts-all, parts-next}
-use Rattle.closure.specs.Layout.{size, width}
+use Rattle.store.specs.Layout.{size, width}
 use Rattle.sheet.specs.declared.Ended.{Ended}
 use Rattle.sheet.specs.declared.Kept.{Kept}
 use Rattle.line.specs.declared.Marks.{Marks}
@@ -19,8 +18,8 @@ use Rattle.sheet.specs.Promise.{Leaves, Stopped}
 use Rattle.sheet.specs.Said.{Said, marksOf, nothing, outcome, outcomeFrom, outcomeOf}
 use Rattle.sheet.specs.Said.Outcome.{refused}
 use Rattle.sheet.specs.own.Stands.{Begins, Blank, Ends, Opens, Stands}
-use Rattle.field.specs.own.Table.{Roomy, namesOf}
-use Rattle.sheet.specs.laws.Stands.{Places, begun-keeps, counts-of}
+use Rattle.field.specs.own.Table.{Roomy, namesOf, Places}
+use Rattle.sheet.specs.laws.Stands.{begun-keeps, counts-of}
 
 -- ---- how it begins
 

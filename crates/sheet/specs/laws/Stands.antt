@@ -14,19 +14,20 @@ use Rattle.logic.specs.Number.{One}
 use Rattle.logic.specs.Number.One.{first, later}
 use Rattle.logic.specs.laws.Number.{one-none}
 use Rattle.closure.specs.declared.Answer.{Answer}
-use Rattle.closure.specs.declared.Counts.{Counts}
-use Rattle.closure.specs.declared.Statement.{Statement}
-use Rattle.closure.specs.Cell.{Cell, Follows, Nothing, With, cellOf}
-use Rattle.closure.specs.Cell.Follows.{given}
-use Rattle.closure.specs.Cell.With.{old, new}
-use Rattle.closure.specs.Layout.{Holds, conceptLimit, itemLimit, roleLimit, width}
+use Rattle.store.specs.declared.Counts.{Counts}
+use Rattle.store.specs.declared.Statement.{Statement}
+use Rattle.store.specs.Cell.{Cell, Follows, Nothing, With, cellOf}
+use Rattle.store.specs.Cell.Follows.{given}
+use Rattle.store.specs.Cell.With.{old, new}
+use Rattle.store.specs.Layout.{Holds, conceptLimit, itemLimit, roleLimit, width, Sized}
 use Rattle.closure.specs.Lines.{Stated}
 use Rattle.closure.specs.Lines.Stated.{stated}
-use Rattle.closure.specs.Promise.{Keeps, Makes}
+use Rattle.store.specs.Keeps.{Keeps}
+use Rattle.closure.specs.Promise.{Makes}
 use Rattle.closure.specs.Promise.Makes.{refused as make-refused, made}
-use Rattle.closure.specs.Refusal.{FreshFault, Sized}
+use Rattle.closure.specs.Refusal.{FreshFault}
 use Rattle.closure.specs.Refusal.FreshFault.{wrong-size}
-use Rattle.closure.specs.laws.Least.{follows-all}
+use Rattle.store.specs.laws.Least.{follows-all}
 use Rattle.field.specs.declared.Form.the-variants as form
 use Rattle.line.specs.declared.Marks.{Marks}
 use Rattle.field.specs.declared.RuleWord.{RuleWord}
@@ -39,7 +40,7 @@ use Rattle.field.specs.Words.{at, Field}
 use Rattle.sheet.specs.Said.{Said, SheetStatement, saying, statementsOf}
 use Rattle.saying.specs.Read.{statementOf}
 use Rattle.sheet.specs.own.Stands.{Begins, Stands}
-use Rattle.field.specs.own.Table.{Roomy, entered, nameAt, namesOf, withConcept, withItem, withRole}
+use Rattle.field.specs.own.Table.{Roomy, entered, nameAt, namesOf, withConcept, withItem, withRole, Places}
 use Rattle.field.specs.laws.Names.{entered-length}
 
 -- ---- the store
@@ -113,12 +114,6 @@ begins-fresh true n s t e k = absurd (true≢false e)
 begins-fresh false n s t e k = k
 
 -- ---- tables
-
--- the entries of a table have their places
-pub record Places (t : Table) : Type 0 where
-  pub concepts : length (t .concepts) ≡ conceptLimit
-  pub roles : length (t .roles) ≡ roleLimit
-  pub items : length (t .items) ≡ itemLimit width
 
 -- the names are as many as the table counts
 pub counts-of : (sheet : List ℕ) (t : Table) → Places t → Roomy t → countsOf (namesOf sheet t) ≡ t .counts

@@ -7,10 +7,11 @@ use native.Mathlib.Omega.{arith}
 use borrow.Author.Tests.{leb-false}
 use lib.ListN.{length}
 use Rattle.text.specs.Name.{isName, nameLimit}
-use Rattle.text.specs.Split.{fieldFrom, fields, partsFrom}
-use Rattle.closure.specs.Cell.{Within, cellOf}
-use Rattle.closure.specs.Layout.{conceptLimit, itemLimit, roleLimit, width}
-use Rattle.closure.specs.declared.Counts.{Counts}
+use Rattle.text.specs.own.Split.{fieldFrom, partsFrom}
+use Rattle.text.specs.Split.{fields}
+use Rattle.store.specs.Cell.{Within, cellOf}
+use Rattle.store.specs.Layout.{conceptLimit, itemLimit, roleLimit, width}
+use Rattle.store.specs.declared.Counts.{Counts}
 use Rattle.text.specs.laws.Name.{name-bounds}
 use Rattle.field.specs.declared.Due.{Due}
 use Rattle.field.specs.declared.Due.the-variants as due
@@ -27,14 +28,14 @@ use Rattle.field.specs.Words.{at, bodyOf, formOf}
 use Rattle.sheet.specs.Said.{Said, lineSaid, saying}
 use Rattle.saying.specs.Read.{statementOf}
 use Rattle.sheet.specs.own.Stands.{Begins, Stands, Takes}
-use Rattle.field.specs.own.Table.{Roomy, entryOf, nameAt, namesOf, placeCount, withConcept, withItem, withRole}
+use Rattle.field.specs.own.Table.{Roomy, entryOf, nameAt, namesOf, placeCount, withConcept, withItem, withRole, Places}
 use Rattle.line.specs.laws.Accepted.{Accepted, line-accepted}
 use Rattle.field.specs.laws.Right.{concept-new, item-new, right-first, role-new}
 use Rattle.saying.specs.laws.Stated.{statement-within}
 use Rattle.field.specs.laws.Entry.{entry-name, name-inside}
 use Rattle.saying.specs.laws.Fields.{nth-first}
 use Rattle.field.specs.laws.Names.{entered-length}
-use Rattle.sheet.specs.laws.Stands.{Places, counts-of, stands-concept, stands-item, stands-role, stands-rule}
+use Rattle.sheet.specs.laws.Stands.{counts-of, stands-concept, stands-item, stands-role, stands-rule}
 
 -- an empty line says nothing
 pub said-empty : (k : ℕ) (x : Said) (line : List ℕ) → length line ≡ 0 → lineSaid k x line ≡ x

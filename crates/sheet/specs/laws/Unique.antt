@@ -5,9 +5,9 @@ use mathlib.Core.List.{List, _++_}
 use Prim.Native.Nat.{ℕ, zero, suc}
 use lib.ListN.{length, take}
 use Rattle.row.specs.Bit.{Words}
-use Rattle.closure.specs.declared.Counts.{Counts}
-use Rattle.closure.specs.Cell.{Cell}
-use Rattle.closure.specs.laws.Refusals.{keeps-unique}
+use Rattle.store.specs.declared.Counts.{Counts}
+use Rattle.store.specs.Cell.{Cell}
+use Rattle.store.specs.laws.Cells.{keeps-unique}
 use Rattle.rule.specs.declared.Finding.{Finding}
 use Rattle.rule.specs.laws.Findings.{findings-unique}
 use Rattle.sheet.specs.declared.Reading.{Reading}

@@ -4,11 +4,12 @@ use mathlib.Core.Bool.{Bool, true, false}
 use mathlib.Core.List.{List, [], _∷_, _++_}
 use Prim.Native.Nat.{ℕ, _+_, _≤_, _<_}
 use lib.ListN.{length}
-use Rattle.text.specs.Split.{fields, partsFrom}
-use Rattle.closure.specs.Layout.{ClosedStore, Holds, size, width}
+use Rattle.text.specs.Split.{fields}
+use Rattle.text.specs.own.Split.{partsFrom}
+use Rattle.store.specs.Layout.{ClosedStore, Holds, size, width}
 use Rattle.rule.specs.declared.Finding.{Finding}
-use Rattle.rule.specs.declared.Total.{Total}
-use Rattle.rule.specs.declared.Total.the-variants.{Count, Refused}
+use Rattle.judge.specs.declared.Total.{Total}
+use Rattle.judge.specs.declared.Total.the-variants.{Count, Refused}
 use Rattle.field.specs.declared.Form.{Form}
 use Rattle.field.specs.declared.Form.the-variants as form
 use Rattle.sheet.specs.declared.RuleLine.{RuleLine}

@@ -5,11 +5,11 @@ use mathlib.Core.List.{List}
 use Prim.Native.Nat.{ℕ, _+_, _≤_}
 use lib.Dec.{eqb}
 use lib.ListN.{length}
-use Rattle.text.specs.Bytes.{partOf}
-use Rattle.closure.specs.declared.Counts.{Counts}
-use Rattle.closure.specs.Cell.{Nothing}
-use Rattle.closure.specs.Layout.{size, width}
-use Rattle.closure.specs.Promise.{Keeps}
+use Rattle.text.specs.own.Split.{partOf}
+use Rattle.store.specs.declared.Counts.{Counts}
+use Rattle.store.specs.Cell.{Nothing}
+use Rattle.store.specs.Layout.{size, width}
+use Rattle.store.specs.Keeps.{Keeps}
 use Rattle.sheet.specs.declared.Ended.{Ended}
 use Rattle.sheet.specs.declared.Kept.{Kept}
 use Rattle.line.specs.declared.Marks.{Marks}

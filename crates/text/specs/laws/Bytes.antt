@@ -10,7 +10,8 @@ use borrow.Author.Tests.{eq-eqb, ne-eqb}
 use lib.Dec.{eqb}
 use lib.ListN.{length, getD, take, drop, drop-of-length-le, length-drop}
 use lib.Seq.{drop-cons, take-all, take-nil}
-use Rattle.text.specs.Bytes.{every, same, partOf, place}
+use Rattle.text.specs.Bytes.{every, same, place}
+use Rattle.text.specs.own.Split.{partOf}
 use Rattle.text.specs.laws.Choice.{cond-both}
 
 -- ---- a test of every byte

@@ -9,8 +9,9 @@ use borrow.Author.Tests.{lt-ltb, ltb-true, eq-eqb, ne-eqb, le-leb, lt-leb, leb-t
 use lib.Dec.{leb, ltb, eqb, leb·suc-suc, leb·zero}
 use lib.ListN.{length, getD, take, drop, drop-of-length-le, length-drop}
 use lib.Seq.{drop-cons, drop-drop}
-use Rattle.text.specs.Bytes.{partOf, place, same}
-use Rattle.text.specs.Split.{upto, split, onto, partsFrom, endOf, fieldAt, fieldFrom, pastField}
+use Rattle.text.specs.own.Split.{partOf, upto, partsFrom, endOf, fieldAt, fieldFrom, pastField}
+use Rattle.text.specs.Bytes.{place, same}
+use Rattle.text.specs.Split.{split, onto}
 use Rattle.text.specs.declared.line.Next.the-variants.{At, End}
 use Rattle.text.specs.laws.Bytes.{place-here, place-on, place-none}
 use Rattle.text.specs.laws.Choice.{cond-both, bool-same, le-cases}

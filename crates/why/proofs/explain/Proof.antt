@@ -2,11 +2,11 @@
 use mathlib.Core.Path.{refl}
 use native.Mathlib.Omega.{arith}
 use borrow.Author.Tests.{not-false, not-true}
-use Rattle.closure.specs.Cell.{cellOf}
-use Rattle.closure.specs.laws.Keeps.{laid-of}
+use Rattle.store.specs.Cell.{cellOf}
+use Rattle.store.specs.laws.Laid.{laid-of}
 use Rattle.sheet.specs.Promise.Reads.{wrong-size}
 use Rattle.sheet.specs.laws.Count.{opens-judges}
-use Rattle.sheet.specs.laws.Stands.{Places}
+use Rattle.field.specs.own.Table.{Places}
 use Rattle.why.specs.Promise.Explains.{refused}
 use Rattle.why.specs.laws.Explained.{explains-asked, explains-found, explains-not, explains-refused}
 use borrow.Author.Needs.{needs}

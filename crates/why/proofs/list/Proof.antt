@@ -2,7 +2,7 @@
 use Prim.Native.Nat.{ℕ}
 use lib.ListN.{length-replicate}
 use borrow.Author.Needs.{needs}
-use Rattle.reason.specs.Picked.{markWords}
+use Rattle.reason.specs.own.Picked.{markWords}
 use Rattle.reason.specs.laws.Picked.{clear-zeros}
 use Rattle.why.specs.laws.Explained.{answered}
 use Rattle.why.proofs.list.Statement.{statement}

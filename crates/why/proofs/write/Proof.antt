@@ -4,8 +4,8 @@ use Prim.Native.Nat.{_+_, _-_, _≤_}
 use native.Mathlib.Omega.{arith}
 use lib.ListN.{length}
 use Rattle.sheet.specs.laws.Pass.{accepted-start}
-use Rattle.why.specs.Asked.{Of}
-use Rattle.why.specs.Stating.{foundStatement}
+use Rattle.why.specs.own.Asked.{Of}
+use Rattle.why.specs.own.Stating.{foundStatement}
 use Rattle.why.specs.laws.Few.{turn-few}
 use Rattle.why.specs.laws.Listed.{Putting, put-le, put-length, putting-listed, putting-more, putting-none}
 use Rattle.why.specs.laws.Stating.{Turn, turn-end, turn-next, turn-paused, turn-start}

@@ -3,9 +3,9 @@ use mathlib.Core.Path.{_≡_, refl, sym, ap, _∙_, subst}
 use mathlib.Core.List.{List}
 use Prim.Native.Nat.{ℕ}
 use lib.ListN.{length}
-use Rattle.closure.specs.declared.Counts.{Counts}
-use Rattle.closure.specs.Cell.{Cell}
-use Rattle.closure.specs.Layout.{Holds, size, width}
+use Rattle.store.specs.declared.Counts.{Counts}
+use Rattle.store.specs.Cell.{Cell}
+use Rattle.store.specs.Layout.{Holds, size, width}
 use Rattle.sheet.specs.declared.Ended.{Ended}
 use Rattle.field.specs.declared.Table.{Table}
 use Rattle.field.specs.Names.{countsOf}
@@ -14,11 +14,12 @@ use Rattle.sheet.specs.Said.{Said}
 use Rattle.sheet.specs.own.Stands.{Opens}
 use Rattle.sheet.specs.laws.Count.{opens-held, opens-outcome, whole-refused}
 use Rattle.sheet.specs.laws.Pass.{saidOf}
-use Rattle.sheet.specs.laws.Stands.{Places, counts-of}
+use Rattle.field.specs.own.Table.{Places}
+use Rattle.sheet.specs.laws.Stands.{counts-of}
 use Rattle.why.specs.declared.Explained.the-variants.{Lines, Refused}
-use Rattle.why.specs.Asked.{Asked, Of, ReasonMarked}
-use Rattle.why.specs.Writing.{Answered, Lists}
-use Rattle.reason.specs.Picked.{picked}
+use Rattle.why.specs.own.Asked.{Asked, Of, ReasonMarked}
+use Rattle.why.specs.own.Writing.{Answered, Lists}
+use Rattle.reason.specs.own.Picked.{picked}
 use Rattle.why.specs.Promise.{Explains}
 use Rattle.why.specs.Promise.Explains.{refused, not-true, found}
 use Rattle.why.specs.Reason.{FollowsFrom, Reason}

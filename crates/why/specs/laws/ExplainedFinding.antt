@@ -4,21 +4,21 @@ use mathlib.Core.Bool.{Bool, true, false}
 use mathlib.Core.List.{List}
 use Prim.Native.Nat.{ℕ}
 use lib.ListN.{length}
-use Rattle.closure.specs.declared.Counts.{Counts}
-use Rattle.closure.specs.Cell.Cell.{In}
-use Rattle.closure.specs.Layout.{Holds, size, width}
+use Rattle.store.specs.declared.Counts.{Counts}
+use Rattle.store.specs.Cell.Cell.{In}
+use Rattle.store.specs.Layout.{Holds, size, width}
 use Rattle.sheet.specs.declared.Ended.{Ended}
 use Rattle.field.specs.Names.{countsOf}
 use Rattle.sheet.specs.own.Stands.{Opens}
 use Rattle.sheet.specs.laws.Count.{opens-held, opens-outcome, whole-refused}
-use Rattle.sheet.specs.laws.Stands.{Places}
+use Rattle.field.specs.own.Table.{Places}
 use Rattle.why.specs.declared.FindingExplained.the-variants.{Lines, Refused}
 use Rattle.why.specs.declared.Sides.{Sides}
 use Rattle.why.specs.Finding.{BrokenSub, ExplainsFinding, concept}
-use Rattle.why.specs.Sides.{Breaking, BrokenIf}
+use Rattle.why.specs.own.Sides.{Breaking, BrokenIf}
 use Rattle.why.specs.Finding.ExplainsFinding.{refused, not-broken, found}
-use Rattle.why.specs.Asked.{Asked}
-use Rattle.why.specs.Writing.{Answered}
+use Rattle.why.specs.own.Asked.{Asked}
+use Rattle.why.specs.own.Writing.{Answered}
 use Rattle.why.specs.Reason.{Reason}
 use Rattle.why.specs.laws.Explained.{explains-asked, opens-counts}
 use Rattle.why.specs.laws.Finding.{broken-in}

@@ -5,8 +5,8 @@ use mathlib.Core.List.{List, [], _∷_}
 use Prim.Native.Nat.{ℕ, suc, _+_, _*_, _-_, _≤_, zero-le, _<_}
 use native.Mathlib.Omega.{arith}
 use lib.ListN.{length, length-append}
-use Rattle.text.specs.Bytes.{partOf}
-use Rattle.text.specs.Split.{endOf, fields, partsFrom, split}
+use Rattle.text.specs.own.Split.{partOf, endOf, partsFrom}
+use Rattle.text.specs.Split.{fields, split}
 use Rattle.text.specs.laws.Split.{parts-all, parts-next}
 use Rattle.field.specs.declared.Form.{Form}
 use Rattle.field.specs.declared.Form.the-variants as form
@@ -19,8 +19,8 @@ use Rattle.field.specs.Words.{bodyOf, formOf}
 use Rattle.line.specs.laws.Accepted.{line-accepted}
 use Rattle.sheet.specs.laws.Pass.{accepted-start, accepted-step, saidOf}
 use Rattle.why.specs.declared.StatementLine.{StatementLine}
-use Rattle.why.specs.Gather.{statementLimit}
-use Rattle.why.specs.Stating.{foundStatement}
+use Rattle.why.specs.own.Gather.{statementLimit}
+use Rattle.why.specs.own.Stating.{foundStatement}
 use Rattle.why.specs.laws.Long.{line-long, split-total, total}
 use Rattle.why.specs.laws.Stating.{Turn, turn-passing}
 

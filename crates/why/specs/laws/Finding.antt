@@ -5,10 +5,10 @@ use mathlib.Core.List.{List, [], _∷_, _++_}
 use Prim.Native.Nat.{ℕ, _≤_}
 use native.Mathlib.Omega.{arith}
 use lib.ListN.{length, length-append}
-use Rattle.closure.specs.declared.Concept.{Concept}
-use Rattle.closure.specs.declared.Counts.{Counts}
-use Rattle.closure.specs.Cell.Cell.{In}
-use Rattle.closure.specs.Layout.{Holds, width}
+use Rattle.store.specs.declared.Concept.{Concept}
+use Rattle.store.specs.declared.Counts.{Counts}
+use Rattle.store.specs.Cell.Cell.{In}
+use Rattle.store.specs.Layout.{Holds, width}
 use Rattle.rule.specs.declared.Head.{Head}
 use Rattle.rule.specs.declared.Head.the-variants as head
 use Rattle.rule.specs.declared.Node.{Node}
@@ -24,7 +24,7 @@ use Rattle.rule.specs.Meaning.{HoldsOf}
 use Rattle.sheet.specs.Said.{Said, SheetRule}
 use Rattle.why.specs.declared.NodeName.{NodeName}
 use Rattle.why.specs.Finding.{BrokenSub, RuleAt, SubOfNames, concept}
-use Rattle.why.specs.Sides.{NodeIs}
+use Rattle.why.specs.own.Sides.{NodeIs}
 
 -- ---- the sides of a rule
 

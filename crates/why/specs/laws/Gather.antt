@@ -10,27 +10,27 @@ use lib.Seq.{take-suc-set}
 use Rattle.logic.specs.Number.{One}
 use Rattle.logic.specs.Number.One.{first, later}
 use Rattle.logic.specs.laws.Number.{one-none}
-use Rattle.closure.specs.declared.Counts.{Counts}
-use Rattle.closure.specs.declared.Statement.{Statement}
-use Rattle.closure.specs.Cell.{Cell, Within, cellOf}
+use Rattle.store.specs.declared.Counts.{Counts}
+use Rattle.store.specs.declared.Statement.{Statement}
+use Rattle.store.specs.Cell.{Cell, Within, cellOf}
 use Rattle.closure.specs.Lines.{Stated}
 use Rattle.closure.specs.Lines.Stated.{stated}
 use Rattle.field.specs.declared.Table.{Table}
 use Rattle.field.specs.Names.{Names, countsOf}
 use Rattle.sheet.specs.Said.{SheetStatement, statementsOf}
-use Rattle.field.specs.own.Table.{Roomy, namesOf}
-use Rattle.sheet.specs.laws.Stands.{Places, counts-of}
-use Rattle.reason.specs.Code.{AllWithin, Coded, cellAt}
-use Rattle.reason.specs.Code.Coded.{coded}
+use Rattle.field.specs.own.Table.{Roomy, namesOf, Places}
+use Rattle.sheet.specs.laws.Stands.{counts-of}
+use Rattle.reason.specs.own.Code.{AllWithin, Coded, cellAt}
+use Rattle.reason.specs.own.Code.Coded.{coded}
 use Rattle.reason.specs.Part.{Minimal, Part}
 use Rattle.reason.specs.Part.Part.{none as no-part, keep, leave}
-use Rattle.row.specs.Row.{rowHasb}
-use Rattle.reason.specs.Picked.{markWords, pickedFrom}
-use Rattle.reason.specs.Promise.{Clear, FollowsCoded, Reasoned, Sought}
+use Rattle.row.specs.own.Row.{rowHasb}
+use Rattle.reason.specs.own.Picked.{markWords, pickedFrom}
+use Rattle.reason.specs.own.Promise.{Clear, FollowsCoded, Reasoned, Sought}
 use Rattle.reason.specs.laws.Picked.{picked-part}
-use Rattle.why.specs.Asked.{Asked, ReasonMarked}
-use Rattle.why.specs.Gather.{Gathered, Numbers}
-use Rattle.why.specs.Gather.Numbers.{none, more}
+use Rattle.why.specs.own.Asked.{Asked, ReasonMarked}
+use Rattle.why.specs.own.Gather.{Gathered, Numbers}
+use Rattle.why.specs.own.Gather.Numbers.{none, more}
 use Rattle.why.specs.Reason.{FollowsFrom}
 use Rattle.why.specs.laws.Reason.{follows-more}
 

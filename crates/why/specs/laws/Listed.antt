@@ -5,11 +5,11 @@ use mathlib.Core.List.{List, [], _∷_, _++_, append-nil}
 use Prim.Native.Nat.{ℕ, suc, _+_, _≤_, min}
 use native.Mathlib.Omega.{arith}
 use lib.ListN.{length, set, length-map, length-append, length-set}
-use Rattle.row.specs.Row.{rowHasb}
+use Rattle.row.specs.own.Row.{rowHasb}
 use Rattle.sheet.specs.Said.{SheetStatement}
 use Rattle.why.specs.Listed.{Listed, linesOf}
-use Rattle.why.specs.Writing.{PutIf}
-use Rattle.reason.specs.Picked.{picked, pickedFrom}
+use Rattle.why.specs.own.Writing.{PutIf}
+use Rattle.reason.specs.own.Picked.{picked, pickedFrom}
 use Rattle.reason.specs.laws.Picked.{picked-more}
 
 -- the list b with the numbers ls written from its start on, as far as it reaches

@@ -5,13 +5,13 @@ use mathlib.Core.List.{List, _∷_}
 use Rattle.logic.specs.Number.{One}
 use Rattle.logic.specs.Number.One.{first, later}
 use Rattle.logic.specs.laws.Number.{one-cases}
-use Rattle.closure.specs.declared.Counts.{Counts}
-use Rattle.closure.specs.declared.Statement.{Statement}
-use Rattle.closure.specs.Cell.{Cell, Follows}
-use Rattle.closure.specs.Cell.Follows.{given}
+use Rattle.store.specs.declared.Counts.{Counts}
+use Rattle.store.specs.declared.Statement.{Statement}
+use Rattle.store.specs.Cell.{Cell, Follows}
+use Rattle.store.specs.Cell.Follows.{given}
 use Rattle.closure.specs.Lines.{Stated}
 use Rattle.closure.specs.Lines.Stated.{stated}
-use Rattle.closure.specs.laws.Least.{follows-all}
+use Rattle.store.specs.laws.Least.{follows-all}
 use Rattle.sheet.specs.Said.{SheetStatement, statementsOf}
 use Rattle.reason.specs.Part.{Grows}
 use Rattle.why.specs.Reason.{FollowsFrom}

@@ -4,9 +4,9 @@ use mathlib.Core.List.{List}
 use Prim.Native.Nat.{ℕ}
 use lib.ListN.{length}
 use Rattle.row.specs.Bit.{Words}
-use Rattle.closure.specs.Cell.{Cell}
-use Rattle.closure.specs.Layout.{Holds, size, width}
-use Rattle.closure.specs.laws.Refusals.{keeps-unique}
+use Rattle.store.specs.Cell.{Cell}
+use Rattle.store.specs.Layout.{Holds, size, width}
+use Rattle.store.specs.laws.Cells.{keeps-unique}
 use Rattle.sheet.specs.declared.Reading.{Reading}
 use Rattle.sheet.specs.declared.Reading.the-variants as reading
 use Rattle.field.specs.Names.{countsOf}
@@ -16,27 +16,20 @@ use Rattle.sheet.specs.Said.{Said, SheetStatement, outcome}
 use Rattle.sheet.specs.Said.Outcome.{accepted}
 use Rattle.sheet.specs.laws.Pass.{not-both, saidOf}
 use Rattle.sheet.specs.laws.Unique.{reads-unique}
-use Rattle.closure.specs.declared.Counts.{Counts}
+use Rattle.store.specs.declared.Counts.{Counts}
 use Rattle.rule.specs.declared.Rule.{Rule}
 use Rattle.why.specs.declared.Explained.{Explained}
-use Rattle.why.specs.declared.Explained.the-variants.{Lines, Refused}
+use Rattle.why.specs.declared.Explained.the-variants.{Refused}
 use Rattle.why.specs.declared.FindingExplained.{FindingExplained}
-use Rattle.why.specs.declared.FindingExplained.the-variants as finding
 use Rattle.why.specs.Finding.{BrokenSub, ExplainsFinding, SubOfNames, concept}
 use Rattle.why.specs.Finding.ExplainsFinding.{refused as refusedFinding, not-broken, found as foundFinding}
 use Rattle.why.specs.Promise.{Explains}
 use Rattle.why.specs.Promise.Explains.{refused, not-true, found}
+use Rattle.why.specs.Settled.{SameAnswer, SameFinding}
 use Rattle.why.specs.Reason.{Reason}
 use Rattle.reason.specs.laws.Part.{part-one}
 use Rattle.why.specs.laws.Finding.{right-unique, rule-unique}
 use Rattle.why.specs.laws.Reason.{follows-grows}
-
--- both are a reason, or both are the same refusal
-abbrev pub SameAnswer : Explained → Explained → Type 0
-SameAnswer (Lines m) (Lines j) = Unit {0}
-SameAnswer (Lines m) (Refused n k) = ⊥
-SameAnswer (Refused n k) (Lines m) = ⊥
-SameAnswer (Refused n k) (Refused i j) = (n ≡ i) × (k ≡ j)
 
 -- an accepted sheet is not refused
 abbrev IsRefused : Reading → Type 0
@@ -78,13 +71,6 @@ explains-settled {sheet} wt wu (found {x = x} l o h g f) (not-true {x = y} m p i
 explains-settled {sheet} wt wu (found {x = x} l o h g f) (found {x = y} m p i j k) = (same-store sheet x y wt wu o p h i, tt)
 
 -- ---- a finding
-
--- both are a reason with the same concept in which the item is not, or both are the same refusal
-abbrev pub SameFinding : FindingExplained → FindingExplained → Type 0
-SameFinding (finding.Lines m c) (finding.Lines j d) = c ≡ d
-SameFinding (finding.Lines m c) (finding.Refused n k) = ⊥
-SameFinding (finding.Refused n k) (finding.Lines m c) = ⊥
-SameFinding (finding.Refused n k) (finding.Refused i j) = (n ≡ i) × (k ≡ j)
 
 -- a rule broken in one store of the sheet is broken in any other
 broken-there : (sheet : List ℕ) {t u : List ℕ} {k a c d : ℕ} (x y : Said) → t ≡ u → outcome sheet ≡ accepted x → outcome sheet ≡ accepted y → BrokenSub (countsOf (y .names)) y u k a c d

@@ -5,10 +5,11 @@ use mathlib.Core.List.{List, [], _∷_, _++_}
 use Prim.Native.Nat.{ℕ, _+_, _-_, _≤_, _<_, zero-le}
 use native.Mathlib.Omega.{arith}
 use lib.ListN.{length, length-append}
-use Rattle.text.specs.Bytes.{partOf, place, same}
-use Rattle.text.specs.Split.{endOf, fields, partsFrom, split}
+use Rattle.text.specs.own.Split.{partOf, endOf, partsFrom}
+use Rattle.text.specs.Bytes.{place, same}
+use Rattle.text.specs.Split.{fields, split}
 use Rattle.text.specs.laws.Split.{end-ge, end-le, parts-next, parts-none}
-use Rattle.closure.specs.Cell.{Within, cellOf}
+use Rattle.store.specs.Cell.{Within, cellOf}
 use Rattle.field.specs.declared.Form.{Form}
 use Rattle.field.specs.declared.Form.the-variants as form
 use Rattle.field.specs.declared.StatementWord.{StatementWord}
@@ -27,7 +28,7 @@ use Rattle.saying.specs.laws.Stated.{statement-within}
 use Rattle.sheet.specs.laws.Pass.{accepted-start, accepted-step, saidOf}
 use Rattle.sheet.specs.laws.Settled.{sheet-settled}
 use Rattle.why.specs.declared.StatementLine.{StatementLine}
-use Rattle.why.specs.Stating.{LineStatement, Next, NextStatement, Opened, Passing, Paused, foundStatement}
+use Rattle.why.specs.own.Stating.{LineStatement, Next, NextStatement, Opened, Passing, Paused, foundStatement}
 
 -- ---- one line
 

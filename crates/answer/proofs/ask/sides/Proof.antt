@@ -8,7 +8,7 @@ use lib.ListN.{length}
 use Rattle.sheet.specs.Said.{SheetRule}
 use Rattle.sheet.specs.laws.Count.{Turn, turn-end, turn-next, turn-paused, turn-start}
 use Rattle.sheet.specs.laws.Pass.{accepted-start}
-use Rattle.why.specs.Asked.{Of}
+use Rattle.why.specs.own.Asked.{Of}
 use Rattle.answer.specs.laws.Asked.{NoneYet, none-all, none-start, none-turn, some-turn}
 use Rattle.answer.proofs.ask.sides.Statement.{statement}
 use Rattle.answer.proofs.ask.sides.Tie as tie

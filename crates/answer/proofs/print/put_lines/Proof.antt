@@ -4,7 +4,7 @@ use mathlib.Core.Path.{_≡_, refl, sym, ap, _∙_}
 use mathlib.Core.Bool.{Bool, false, cond}
 use Prim.Native.Nat.{_+_, _-_, _*_, _≤_, zero-le}
 use lib.ListN.{length}
-use Rattle.row.specs.Row.{rowHasb}
+use Rattle.row.specs.own.Row.{rowHasb}
 use Rattle.text.specs.laws.Split.{end-ge, end-le}
 use Rattle.sheet.specs.Said.{Said, outcome}
 use Rattle.sheet.specs.Said.Outcome.{accepted}

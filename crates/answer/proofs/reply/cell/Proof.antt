@@ -2,7 +2,7 @@
 use native.Mathlib.Omega.{arith}
 use mathlib.Core.Path.{refl}
 use borrow.Author.Tests.{not-false, not-true}
-use Rattle.closure.specs.laws.Keeps.{laid-of}
+use Rattle.store.specs.laws.Laid.{laid-of}
 use Rattle.answer.specs.laws.Reply.{cell-false, cell-none, cell-true, known-asked, known-judges}
 use borrow.Author.Needs.{needs}
 use Rattle.answer.proofs.reply.cell.Statement.{statement}

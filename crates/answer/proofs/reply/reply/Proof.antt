@@ -1,6 +1,6 @@
 -- `answer::reply::reply` meets its contract. Assumes nothing.
 use mathlib.Core.Path.{sym, _∙_}
-use Rattle.sheet.specs.laws.Stands.{Places}
+use Rattle.field.specs.own.Table.{Places}
 use Rattle.answer.specs.laws.Reply.{known-opens, reply-refused}
 use borrow.Author.Needs.{needs}
 use Rattle.answer.proofs.reply.reply.Statement.{statement}

@@ -3,7 +3,7 @@ use native.Mathlib.Omega.{arith}
 use mathlib.Core.Path.{_≡_, sym}
 use lib.ListN.{length}
 use lib.Seq.{length-take-le}
-use Rattle.closure.specs.Layout.{itemLimit, width}
+use Rattle.store.specs.Layout.{itemLimit, width}
 use Rattle.field.specs.laws.Names.{entered-length}
 use borrow.Author.Needs.{needs}
 use Rattle.field.proofs.names.item.Statement.{statement}

@@ -6,7 +6,7 @@ use mathlib.Core.List.{_∷_}
 use Prim.Native.Nat.{_≤_, _+_, _*_, _-_}
 use lib.ListN.{length}
 use denote.Ref.{now}
-use Rattle.text.specs.Split.{partsFrom}
+use Rattle.text.specs.own.Split.{partsFrom}
 use Rattle.text.specs.laws.Split.{fields-next, fields-none, past-here, end-ge}
 use Rattle.field.specs.Due.{dues}
 use Rattle.field.specs.own.Table.{namesOf}

@@ -5,7 +5,7 @@ use Prim.Native.Nat.{zero-le}
 use lib.ListN.{length}
 use Rattle.text.specs.laws.Split.{end-le}
 use Rattle.sheet.specs.laws.Pass.{accepted-start, passing-start}
-use Rattle.sheet.specs.laws.Stands.{Places}
+use Rattle.field.specs.own.Table.{Places}
 use Rattle.listing.specs.laws.Trail.{first-sought}
 use borrow.Author.Needs.{needs}
 use native.Mathlib.Omega.{arith}

@@ -1,5 +1,5 @@
 -- `listing::trails::open` meets its contract. Assumes nothing.
-use Rattle.sheet.specs.laws.Stands.{Places}
+use Rattle.field.specs.own.Table.{Places}
 use Rattle.listing.specs.laws.Opens.{opens-accepted, opens-accepts, opens-refused, opens-store}
 use borrow.Author.Needs.{needs}
 use Rattle.listing.proofs.trails.open.Statement.{statement}

@@ -3,10 +3,10 @@ use mathlib.Core.List.{List}
 use Prim.Native.Nat.{_+_, _-_, _≤_}
 use lib.ListN.{length}
 use borrow.Author.Tests.{not-true, not-false}
-use Rattle.closure.specs.laws.Keeps.{laid-of}
+use Rattle.store.specs.laws.Laid.{laid-of}
 use Rattle.rule.specs.declared.Finding.{Finding}
 use Rattle.sheet.specs.own.Pass.{Paused}
-use Rattle.listing.specs.Trail.{Beyond}
+use Rattle.listing.specs.own.Trail.{Beyond}
 use Rattle.listing.specs.laws.Trail.{beyond-on, beyond-paused, sought-none, sought-some}
 use borrow.Author.Needs.{needs}
 use native.Mathlib.Omega.{arith}

@@ -1,7 +1,7 @@
 -- `reason::choose::by_fact` meets its contract. Assumes nothing.
 use mathlib.Core.Path.{refl}
 use borrow.Author.Needs.{needs}
-use Rattle.reason.specs.Picked.{markWords}
+use Rattle.reason.specs.own.Picked.{markWords}
 use Rattle.reason.specs.laws.Explain.{joined-reaches}
 use Rattle.reason.specs.laws.Picked.{clear-zeros}
 use Rattle.reason.proofs.choose.by_fact.Statement.{statement}

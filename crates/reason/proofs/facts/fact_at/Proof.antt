@@ -1,7 +1,7 @@
 -- `reason::facts::fact_at` meets its contract. Assumes nothing.
 use mathlib.Core.Path.{ap, _∙_}
 use borrow.Author.Needs.{needs}
-use Rattle.reason.specs.Fact.{factOf}
+use Rattle.reason.specs.own.Fact.{factOf}
 use Rattle.reason.proofs.facts.fact_at.Statement.{statement}
 use Rattle.reason.proofs.facts.fact_at.Tie as tie
 

@@ -7,12 +7,12 @@ use Rattle.field.specs.Names.{countsOf}
 use Rattle.sheet.specs.Promise.{printLimit}
 use Rattle.sheet.specs.Said.{Said, SheetRule, outcome}
 use Rattle.sheet.specs.Said.Outcome.{accepted}
-use Rattle.field.specs.own.Table.{namesOf}
+use Rattle.field.specs.own.Table.{namesOf, Places}
 use Rattle.sheet.specs.laws.Count.{Turn, turn-end, turn-next, turn-paused, turn-start}
-use Rattle.sheet.specs.laws.Few.{few-findings}
+use Rattle.rule.specs.laws.Few.{few-findings}
 use Rattle.sheet.specs.laws.Pass.{accepted-start}
-use Rattle.sheet.specs.laws.Stands.{Places, counts-of}
-use Rattle.report.specs.Lines.{Printed, findingBound}
+use Rattle.sheet.specs.laws.Stands.{counts-of}
+use Rattle.report.specs.own.Lines.{Printed, findingBound}
 use Rattle.report.specs.laws.Page.{turn-printed}
 use Rattle.report.specs.laws.Printed.{printed-start}
 use borrow.Author.Needs.{needs}

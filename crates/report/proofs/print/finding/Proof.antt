@@ -1,7 +1,7 @@
 -- `report::print::finding` meets its contract. Assumes nothing.
 use native.Mathlib.Omega.{arith}
 use Rattle.text.specs.laws.Text.{wrote-then}
-use Rattle.report.specs.Lines.{lineText}
+use Rattle.report.specs.own.Lines.{lineText}
 use borrow.Author.Needs.{needs}
 use Rattle.report.proofs.print.finding.Statement.{statement}
 use Rattle.report.proofs.print.finding.Tie as tie

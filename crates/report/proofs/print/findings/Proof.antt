@@ -3,7 +3,7 @@ use mathlib.Core.Path.{_≡_, refl, _∙_}
 use Prim.Native.Nat.{_+_, _*_, _-_, _≤_, _<_}
 use native.Mathlib.Omega.{arith}
 use lib.ListN.{length}
-use Rattle.rule.specs.Search.{Ready}
+use Rattle.judge.specs.own.Search.{Ready}
 use Rattle.field.specs.own.Table.{namesOf}
 use Rattle.report.specs.laws.Written.{Reached, reached-all, reached-more, reached-start}
 use Rattle.report.proofs.print.findings.Statement.{statement}

@@ -1,9 +1,9 @@
 -- `report::print::judge` meets its contract. Assumes nothing.
 use mathlib.Core.Path.{ap, _∙_}
 use native.Mathlib.Omega.{arith}
-use Rattle.closure.specs.laws.Keeps.{laid-of}
+use Rattle.store.specs.laws.Laid.{laid-of}
 use Rattle.sheet.specs.own.Pass.{countedIn}
-use Rattle.sheet.specs.laws.Few.{few-findings}
+use Rattle.rule.specs.laws.Few.{few-findings}
 use Rattle.report.specs.laws.Tally.{tallied}
 use borrow.Author.Needs.{needs}
 use Rattle.report.proofs.print.judge.Statement.{statement}

@@ -2,7 +2,7 @@
 use mathlib.Core.Path.{_∙_, ap}
 use mathlib.Core.Bool.{Bool}
 use borrow.Author.Needs.{needs}
-use Rattle.row.specs.Change.{grown, orIf}
+use Rattle.row.specs.own.Change.{grown, orIf}
 use Rattle.row.proofs.bit.grow.Statement.{statement}
 use Rattle.row.proofs.bit.grow.Tie as tie
 

@@ -1,5 +1,5 @@
 -- `row::bit::or_if` meets its contract. Assumes nothing.
-use Rattle.row.specs.Change.{orIf}
+use Rattle.row.specs.own.Change.{orIf}
 use Rattle.row.proofs.bit.or_if.Statement.{statement}
 use Rattle.row.proofs.bit.or_if.Tie as tie
 

@@ -2,8 +2,7 @@
 use mathlib.Core.Path.{_≡_}
 use Prim.Native.Nat.{_+_, _*_, _≤_, _-_}
 use native.Mathlib.Omega.{arith}
-use borrow.Author.Needs.{needs}
-use Rattle.row.specs.Pick.{Column}
+use Rattle.row.specs.own.Pick.{Column}
 use Rattle.row.specs.laws.Rows.{row-next, row-within}
 use Rattle.row.specs.laws.Column.{column-done, column-more, column-none}
 use Rattle.row.proofs.copy.column.Statement.{statement}

@@ -3,7 +3,7 @@ use native.Mathlib.Omega.{arith}
 use borrow.Author.Needs.{needs}
 use mathlib.Core.Path.{_≡_}
 use Prim.Native.Nat.{_≤_, _-_}
-use Rattle.row.specs.Change.{gathered}
+use Rattle.row.specs.own.Change.{gathered}
 use Rattle.row.specs.laws.Gather.{gathered-none, gathered-more, gathered-done}
 use Rattle.row.specs.laws.Rows.{row-within}
 use Rattle.row.proofs.copy.gather.Statement.{statement}

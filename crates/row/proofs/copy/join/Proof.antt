@@ -2,19 +2,20 @@
 use mathlib.Core.Path.{refl}
 use Prim.Native.Nat.{_≤_, _-_}
 use native.Mathlib.Omega.{arith}
-use Rattle.row.specs.Row.{Joined}
-use Rattle.row.specs.laws.Merge.{joined-done, joined-more, joined-none}
+use Rattle.row.specs.own.Row.{Joined}
+use Rattle.row.specs.laws.Rows.{joined-done, joined-more, joined-none}
 use Rattle.row.proofs.copy.join.Statement.{statement}
 use Rattle.row.proofs.copy.join.Tie as tie
+use Rattle.row.specs.own.Pick.{room}
 
 abbrev Inv-loop : tie.InvT-loop
-Inv-loop s a b width r₀ h₀ r h = (h ≤ width) × Joined s a b h 8 r
+Inv-loop s a b width r₀ h₀ r h = (h ≤ width) × Joined s a b h room r
 
 abbrev μ-loop : tie.MeasureT-loop
 μ-loop s a b width r₀ h₀ r h = width - h
 
 loop-holds : tie.Need-loop-holds Inv-loop μ-loop
-loop-holds c = (omega arith, joined-none _ _ _ _ 8 refl)
+loop-holds c = (omega arith, joined-none _ _ _ room)
 
 add-r : tie.Need-add-r Inv-loop μ-loop
 add-r c = omega arith
@@ -50,7 +51,7 @@ loop-again : tie.Need-loop-again Inv-loop μ-loop
 loop-again c = (omega arith, joined-more (c .before .before .before .loop .inv .1) (omega arith) refl)
 
 returns : tie.Need-returns Inv-loop μ-loop
-returns c = joined-done (c .before .loop .inv .1) (omega arith)
+returns c = joined-done (c .before .loop .inv .1) (c .before .loop .inv .0) (omega arith)
 
 pub join-spec : {M : Type 1} → statement M
 join-spec =

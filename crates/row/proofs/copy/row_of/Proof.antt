@@ -2,19 +2,20 @@
 use mathlib.Core.Path.{refl}
 use Prim.Native.Nat.{_≤_, _-_}
 use native.Mathlib.Omega.{arith}
-use Rattle.row.specs.Row.{Copied}
+use Rattle.row.specs.own.Row.{Copied}
 use Rattle.row.specs.laws.Rows.{copied-done, copied-more, copied-none}
 use Rattle.row.proofs.copy.row_of.Statement.{statement}
 use Rattle.row.proofs.copy.row_of.Tie as tie
+use Rattle.row.specs.own.Pick.{room}
 
 abbrev Inv-loop : tie.InvT-loop
-Inv-loop s at width r₀ h₀ r h = (h ≤ width) × Copied s at h 8 r
+Inv-loop s at width r₀ h₀ r h = (h ≤ width) × Copied s at h room r
 
 abbrev μ-loop : tie.MeasureT-loop
 μ-loop s at width r₀ h₀ r h = width - h
 
 loop-holds : tie.Need-loop-holds Inv-loop μ-loop
-loop-holds c = (omega arith, copied-none _ _ _ 8 refl)
+loop-holds c = (omega arith, copied-none _ _ room)
 
 add-r : tie.Need-add-r Inv-loop μ-loop
 add-r c = omega arith
@@ -41,7 +42,7 @@ loop-again : tie.Need-loop-again Inv-loop μ-loop
 loop-again c = (omega arith, copied-more (c .before .before .loop .inv .1) (omega arith) refl)
 
 returns : tie.Need-returns Inv-loop μ-loop
-returns c = copied-done (c .before .loop .inv .1) (omega arith)
+returns c = copied-done (c .before .loop .inv .1) (c .before .loop .inv .0) (omega arith)
 
 pub row-of-spec : {M : Type 1} → statement M
 row-of-spec =

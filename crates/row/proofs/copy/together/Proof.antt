@@ -2,7 +2,7 @@
 use mathlib.Core.Path.{refl}
 use Prim.Native.Nat.{_≤_, _-_}
 use native.Mathlib.Omega.{arith}
-use Rattle.row.specs.Pick.{Together}
+use Rattle.row.specs.own.Pick.{Together}
 use Rattle.row.specs.laws.Together.{together-none, together-more, together-done}
 use Rattle.row.proofs.copy.together.Statement.{statement}
 use Rattle.row.proofs.copy.together.Tie as tie

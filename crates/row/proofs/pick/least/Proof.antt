@@ -32,7 +32,7 @@ add-result : tie.Need-add-result Inv-loop μ-loop
 add-result c = omega arith
 
 returns : tie.Need-returns Inv-loop μ-loop
-returns c = least-here _ _ (c .before .before .before .loop .inv .1) (c .if1 .taken)
+returns c = least-here _ _ (omega arith) (c .before .before .before .loop .inv .1) (c .if1 .taken)
 
 add-h : tie.Need-add-h Inv-loop μ-loop
 add-h c = omega arith

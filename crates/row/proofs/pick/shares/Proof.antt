@@ -4,7 +4,7 @@ use native.Mathlib.Omega.{arith}
 use native.Mathlib.Nat.{lt-of-le-of-lt}
 use lib.Bits.{and-le-l}
 use Rattle.logic.specs.laws.Decides.{decides-no, decides-yes}
-use Rattle.row.specs.Pick.{Shared}
+use Rattle.row.specs.own.Pick.{Shared}
 use Rattle.row.specs.laws.Shared.{shared-here, shared-skip}
 use Rattle.row.proofs.pick.shares.Statement.{statement}
 use Rattle.row.proofs.pick.shares.Tie as tie

@@ -2,7 +2,7 @@
 use native.Mathlib.Omega.{arith}
 use borrow.Author.Needs.{needs}
 use mathlib.Core.Path.{_≡_, refl, sym, _∙_}
-use Rattle.text.specs.Split.{partsFrom}
+use Rattle.text.specs.own.Split.{partsFrom}
 use Rattle.field.specs.Words.{at as fieldOf}
 use Rattle.saying.specs.laws.Fields.{nth-first, nth-later}
 use Rattle.saying.proofs.numbers.nth.Statement.{statement}

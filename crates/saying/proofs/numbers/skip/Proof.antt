@@ -3,7 +3,7 @@ use native.Mathlib.Omega.{arith}
 use borrow.Author.Needs.{needs}
 use mathlib.Core.Path.{_≡_, refl, sym, _∙_}
 use lib.ListN.{drop}
-use Rattle.text.specs.Split.{partsFrom}
+use Rattle.text.specs.own.Split.{partsFrom}
 use Rattle.saying.specs.laws.Fields.{skip-first, skip-later}
 use Rattle.saying.proofs.numbers.skip.Statement.{statement}
 use Rattle.saying.proofs.numbers.skip.Tie as tie

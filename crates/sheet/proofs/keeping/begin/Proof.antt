@@ -1,7 +1,6 @@
 -- `sheet::keeping::begin` meets its contract. Assumes nothing.
 use mathlib.Core.Path.{sym, _∙_}
-use Rattle.closure.specs.Layout.{width}
-use Rattle.closure.specs.Refusal.{Sized}
+use Rattle.store.specs.Layout.{width, Sized}
 use Rattle.line.specs.Fault.{begun}
 use Rattle.sheet.specs.laws.Stands.{begins-fresh, begins-same, makes-keeps}
 use borrow.Author.Needs.{needs}

@@ -1,6 +1,6 @@
 -- `sheet::keeping::state` meets its contract. Assumes nothing.
 use native.Mathlib.Omega.{arith}
-use Rattle.closure.specs.laws.Keeps.{laid-of}
+use Rattle.store.specs.laws.Laid.{laid-of}
 use borrow.Author.Needs.{needs}
 use Rattle.sheet.proofs.keeping.state.Statement.{statement}
 use Rattle.sheet.proofs.keeping.state.Tie as tie

@@ -3,15 +3,15 @@ use mathlib.Core.Path.{_≡_, ap, _∙_}
 use mathlib.Core.List.{List}
 use Prim.Native.Nat.{_+_, _*_, _-_, _≤_}
 use lib.ListN.{length}
-use Rattle.closure.specs.laws.Keeps.{laid-of}
+use Rattle.store.specs.laws.Laid.{laid-of}
 use Rattle.field.specs.Names.{countsOf}
 use Rattle.sheet.specs.own.Pass.{Counted}
 use Rattle.sheet.specs.Said.{Said, SheetRule, outcome}
 use Rattle.sheet.specs.Said.Outcome.{accepted}
-use Rattle.field.specs.own.Table.{namesOf}
+use Rattle.field.specs.own.Table.{namesOf, Places}
 use Rattle.sheet.specs.laws.Count.{Turn, counted-few, counted-more, counted-none, turn-end, turn-next, turn-paused, turn-start}
 use Rattle.sheet.specs.laws.Pass.{accepted-start}
-use Rattle.sheet.specs.laws.Stands.{Places, counts-of}
+use Rattle.sheet.specs.laws.Stands.{counts-of}
 use borrow.Author.Needs.{needs}
 use native.Mathlib.Omega.{arith}
 use Rattle.sheet.proofs.reads.count_all.Statement.{statement}

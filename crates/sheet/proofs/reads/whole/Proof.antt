@@ -1,6 +1,6 @@
 -- `sheet::reads::whole` meets its contract. Assumes nothing.
 use Rattle.sheet.specs.laws.Count.{opens-judges, whole-accepted, whole-refused, whole-size}
-use Rattle.sheet.specs.laws.Stands.{Places}
+use Rattle.field.specs.own.Table.{Places}
 use borrow.Author.Needs.{needs}
 use native.Mathlib.Omega.{arith}
 use Rattle.sheet.proofs.reads.whole.Statement.{statement}

@@ -1,5 +1,5 @@
 -- `sheet::sheets::fill` meets its contract. Assumes nothing.
-use Rattle.sheet.specs.laws.Stands.{Places}
+use Rattle.field.specs.own.Table.{Places}
 use Rattle.sheet.specs.laws.Sheets.{opens-end, opens-long, opens-stop}
 use borrow.Author.Needs.{needs}
 use Rattle.sheet.proofs.sheets.fill.Statement.{statement}

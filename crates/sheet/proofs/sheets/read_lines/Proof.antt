@@ -4,7 +4,7 @@ use borrow.Author.Needs.{needs}
 use mathlib.Core.Path.{_≡_, refl, _∙_}
 use Prim.Native.Nat.{_+_, _-_}
 use lib.ListN.{length}
-use Rattle.text.specs.Split.{partsFrom}
+use Rattle.text.specs.own.Split.{partsFrom}
 use Rattle.text.specs.laws.Split.{end-ge, end-le}
 use Rattle.sheet.specs.Said.{nothing, outcomeFrom}
 use Rattle.sheet.specs.laws.Lines.{Reads, reads-end, reads-on, reads-stop, reads-take}

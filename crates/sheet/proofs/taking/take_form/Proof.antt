@@ -1,5 +1,5 @@
 -- `sheet::taking::take_form` meets its contract. Assumes nothing.
-use Rattle.sheet.specs.laws.Stands.{Places}
+use Rattle.field.specs.own.Table.{Places}
 use Rattle.sheet.specs.laws.Taken.{concept-entry, concept-room, concept-taken, item-entry, item-room, item-taken, role-entry, role-room, role-taken, rule-room, rule-taken, bare-taken, statement-inside, statement-taken, unknown-taken}
 use borrow.Author.Needs.{needs}
 use Rattle.sheet.proofs.taking.take_form.Statement.{statement}

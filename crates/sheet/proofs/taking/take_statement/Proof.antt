@@ -1,6 +1,7 @@
 -- `sheet::taking::take_statement` meets its contract. Assumes nothing.
-use Rattle.text.specs.Split.{partsFrom}
-use Rattle.sheet.specs.laws.Stands.{Places, begun-keeps, stands-statement}
+use Rattle.text.specs.own.Split.{partsFrom}
+use Rattle.field.specs.own.Table.{Places}
+use Rattle.sheet.specs.laws.Stands.{begun-keeps, stands-statement}
 use borrow.Author.Needs.{needs}
 use Rattle.sheet.proofs.taking.take_statement.Statement.{statement}
 use Rattle.sheet.proofs.taking.take_statement.Tie as tie

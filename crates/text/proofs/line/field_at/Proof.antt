@@ -2,7 +2,7 @@
 use mathlib.Core.Path.{sym}
 use borrow.Author.Needs.{needs}
 use borrow.Author.Tests.{le-leb, lt-leb}
-use Rattle.text.specs.Split.{fieldAt}
+use Rattle.text.specs.own.Split.{fieldAt}
 use Rattle.text.proofs.line.field_at.Statement.{statement}
 use Rattle.text.proofs.line.field_at.Tie as tie
 

@@ -6,7 +6,7 @@ use mathlib.Core.Path.{_≡_, refl, sym, _∙_}
 use lib.ListN.{length}
 use native.Mathlib.Omega.{arith}
 use borrow.Author.Needs.{needs}
-use Rattle.text.specs.Split.{endOf}
+use Rattle.text.specs.own.Split.{endOf}
 use Rattle.text.specs.laws.Split.{end-out, end-here, end-on}
 
 abbrev Inv-loop : tie.InvT-loop

@@ -6,7 +6,8 @@ use Prim.Native.Nat.{_≤_, _+_, _-_}
 use denote.Ref.{now}
 use lib.ListN.{length}
 use Rattle.text.specs.Bytes.{place}
-use Rattle.text.specs.Split.{split, partsFrom}
+use Rattle.text.specs.Split.{split}
+use Rattle.text.specs.own.Split.{partsFrom}
 use Rattle.text.specs.laws.Split.{parts-all, end-ge, end-le, word-here, word-on, word-out}
 use Rattle.text.proofs.part.place.Statement.{statement}
 use Rattle.text.proofs.part.place.Tie as tie

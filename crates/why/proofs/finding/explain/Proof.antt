@@ -3,7 +3,7 @@ use mathlib.Core.Path.{refl}
 use borrow.Author.Tests.{not-false, not-true}
 use Rattle.sheet.specs.Promise.Reads.{wrong-size}
 use Rattle.sheet.specs.laws.Count.{opens-judges}
-use Rattle.sheet.specs.laws.Stands.{Places}
+use Rattle.field.specs.own.Table.{Places}
 use Rattle.why.specs.Finding.ExplainsFinding.{refused}
 use Rattle.why.specs.laws.ExplainedFinding.{finding-asked, finding-found, finding-not, finding-refused}
 use borrow.Author.Needs.{needs}

@@ -8,7 +8,7 @@ use Rattle.sheet.specs.Said.{SheetRule}
 use Rattle.sheet.specs.laws.Count.{Turn, turn-end, turn-next, turn-paused, turn-rules, turn-start}
 use Rattle.sheet.specs.laws.Pass.{accepted-start}
 use Rattle.sheet.specs.own.Pass.{foundRule}
-use Rattle.why.specs.Asked.{Of}
+use Rattle.why.specs.own.Asked.{Of}
 use Rattle.why.proofs.finding.rule_at.Statement.{statement}
 use Rattle.why.proofs.finding.rule_at.Tie as tie
 

@@ -5,13 +5,13 @@ use Prim.Native.Nat.{_+_, _-_, _≤_, _<_}
 use native.Mathlib.Omega.{arith}
 use borrow.Author.Needs.{needs}
 use lib.ListN.{length, take, length-set}
-use Rattle.closure.specs.Cell.{cellOf}
+use Rattle.store.specs.Cell.{cellOf}
 use Rattle.sheet.specs.Said.{SheetStatement}
 use Rattle.sheet.specs.laws.Pass.{accepted-start}
-use Rattle.sheet.specs.laws.Stands.{Places}
-use Rattle.why.specs.Asked.{Of}
-use Rattle.why.specs.Gather.{Numbers, statementLimit}
-use Rattle.why.specs.Stating.{foundStatement}
+use Rattle.field.specs.own.Table.{Places}
+use Rattle.why.specs.own.Asked.{Of}
+use Rattle.why.specs.own.Gather.{Numbers, statementLimit}
+use Rattle.why.specs.own.Stating.{foundStatement}
 use Rattle.reason.specs.laws.Code.{within-small}
 use Rattle.why.specs.laws.Few.{turn-few}
 use Rattle.why.specs.laws.Gather.{numbers-more, numbers-none, within-table}

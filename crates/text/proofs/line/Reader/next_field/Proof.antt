@@ -43,7 +43,7 @@ use denote.Triple.Table.{entered, cited}
 use denote.Triple.Walked.{says, Stays, stay-none, walkOf, goes-none, Walks, ends-at, walked, walk-meets}
 use denote.Exit.{yes}
 use denote.Triple.Clauses.{ensured, lasts}
-use Rattle.text.specs.Split.{fieldAt as stepAt}
+use Rattle.text.specs.own.Split.{fieldAt as stepAt}
 use Rattle.text.specs.declared.line.Reader.{Reader}
 use Rattle.text.specs.declared.line.Next.{Next as Step}
 use Rattle.text.proofs.line.Reader as T

@@ -1,0 +1,65 @@
+-- How a question is taken apart.
+use mathlib.Core.Path.{_≡_}
+use mathlib.Core.Bool.{Bool, true, false}
+use mathlib.Core.List.{List}
+use Prim.Native.Nat.{ℕ}
+use Rattle.text.specs.Bytes.{same}
+use Rattle.text.specs.Text.{decimal}
+use Rattle.store.specs.declared.Counts.{Counts}
+use Rattle.store.specs.Cell.{Cell, cellOf}
+use Rattle.field.specs.declared.Form.{Form}
+use Rattle.field.specs.declared.Form.the-variants as form
+use Rattle.field.specs.declared.Table.{Table}
+use Rattle.field.specs.Names.{Names}
+use Rattle.sheet.specs.Said.{Said}
+use Rattle.saying.specs.Read.{statementOf}
+use Rattle.field.specs.Words.{Field}
+use Rattle.why.specs.declared.Sides.{Sides}
+use Rattle.why.specs.Finding.{BrokenSub}
+use Rattle.why.specs.own.Sides.{Breaking}
+use Rattle.report.specs.Promise.{lineOf}
+use Rattle.answer.specs.declared.CellAsked.{CellAsked}
+use Rattle.answer.specs.declared.FindingAsked.{FindingAsked}
+use Rattle.answer.specs.Question.{AsksCell, AsksFinding}
+
+-- the cell that a line of this form states, if it is that of a statement
+abbrev pub FormAsked : Names → Form → List Field → CellAsked → Type 0
+FormAsked n form.Concept fs r = r .asked ≡ false
+FormAsked n form.Role fs r = r .asked ≡ false
+FormAsked n form.Item fs r = r .asked ≡ false
+FormAsked n (form.Statement w) fs r = r ≡ record { asked = true; cell = statementOf n w fs }
+FormAsked n (form.Rule w) fs r = r .asked ≡ false
+FormAsked n form.Bare fs r = r .asked ≡ false
+FormAsked n form.Unknown fs r = r .asked ≡ false
+
+-- the cell that a question asks for, or it asks for none
+abbrev pub Asking : Bool → Names → List ℕ → CellAsked → Type 0
+Asking true n q r = AsksCell n q (cellOf (r .cell))
+Asking false n q r = (c : Cell) → ¬ (AsksCell n q c)
+
+-- the rule k of the sheet x is in the line whose number the field f says, and the item a breaks it in the store s; it has concept names on both sides
+pub record BrokenIn (n : Counts) (x : Said) (s : List ℕ) (f : Field) (a c d : ℕ) : Type 0 where
+  pub rule : ℕ
+  pub line : same f (decimal (lineOf x rule)) ≡ true
+  pub broken : BrokenSub n x s rule a c d
+
+-- the sides of the rule k, if `on` and if the item a breaks it
+pub record BreakingIf (on : Bool) (sheet : List ℕ) (t : Table) (s : List ℕ) (k a : ℕ) (r : Sides) : Type 0 where
+  pub breaking : on ≡ true → Breaking sheet t s k a r
+  pub none : on ≡ false → r .named ≡ false
+
+-- the sides of such a rule, or there is none
+abbrev pub SidesIf : Bool → Counts → Said → List ℕ → Field → ℕ → Sides → Type 0
+SidesIf true n x s f a r = BrokenIn n x s f a (r .left) (r .right)
+SidesIf false n x s f a r = (c d : ℕ) → ¬ (BrokenIn n x s f a c d)
+
+-- the question q is the line of a finding of such a rule
+pub record FindingIn (n : Counts) (x : Said) (s q : List ℕ) (a c d : ℕ) : Type 0 where
+  pub rule : ℕ
+  pub asks : AsksFinding (x .names) q (lineOf x rule) a
+  pub broken : BrokenSub n x s rule a c d
+
+-- the finding that a question asks for, or it asks for none
+abbrev pub FindingIf : Bool → Counts → Said → List ℕ → List ℕ → FindingAsked → Type 0
+FindingIf true n x s q r = FindingIn n x s q (r .item) (r .left) (r .right)
+FindingIf false n x s q r = (a c d : ℕ) → ¬ (FindingIn n x s q a c d)

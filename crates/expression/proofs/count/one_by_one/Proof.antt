@@ -1,0 +1,69 @@
+-- `expression::count::one_by_one` meets its contract. The loop's invariant is the contract below `x`. Assumes nothing.
+use mathlib.Core.Path.{_≡_, _∙_}
+use Prim.Native.Nat.{_≤_, _-_}
+use native.Mathlib.Omega.{arith}
+use borrow.Author.Needs.{needs}
+use lib.ListN.{length}
+use Rattle.row.specs.own.Row.{RowHas}
+use Rattle.row.specs.own.Pick.{Marks, room}
+use Rattle.store.specs.Layout.{Holds}
+use Rattle.rule.specs.Meaning.{Articles}
+use Rattle.expression.specs.own.Row.{Found}
+use Rattle.row.specs.laws.Marks.{marks-done, marks-more, marks-none}
+use Rattle.expression.specs.laws.Found.{marks-articles}
+use Rattle.expression.proofs.count.one_by_one.Statement.{statement}
+use Rattle.expression.proofs.count.one_by_one.Tie as tie
+
+abbrev Inv-loop : tie.InvT-loop
+Inv-loop words at counts k u p r₀ x₀ r x =
+    (x ≤ counts .items) × (length r ≡ room)
+    × Marks x r (λ y. Articles (Holds (at .width) counts words) counts k (Found (Holds (at .width) counts words) u (RowHas p) y))
+
+abbrev μ-loop : tie.MeasureT-loop
+μ-loop words at counts k u p r₀ x₀ r x = counts .items - x
+
+empty-requires : tie.Need-empty-requires Inv-loop μ-loop
+empty-requires c κs = search needs
+
+loop-holds : tie.Need-loop-holds Inv-loop μ-loop
+loop-holds c = (omega arith, c .empty .ensures .len, marks-none (c .empty .ensures))
+
+found-requires : tie.Need-found-requires Inv-loop μ-loop
+found-requires c κs = search needs
+
+articles-requires : tie.Need-articles-requires Inv-loop μ-loop
+articles-requires c κs = search needs
+
+mark-requires : tie.Need-mark-requires Inv-loop μ-loop
+mark-requires c κs = search needs
+
+add-x : tie.Need-add-x Inv-loop μ-loop
+add-x c = omega arith
+
+loop-less : tie.Need-loop-less Inv-loop μ-loop
+loop-less c = omega arith
+
+loop-again : tie.Need-loop-again Inv-loop μ-loop
+loop-again c =
+    let at-loop = c .before .before .before .before .before .before in
+    let on = marks-articles (c .before .before .before .found .ensures) (c .before .before .articles .ensures) in
+    (omega arith, c .mark .ensures .len ∙ at-loop .loop .inv .1, marks-more (at-loop .loop .inv .2) on (c .mark .ensures))
+
+returns : tie.Need-returns Inv-loop μ-loop
+returns c = marks-done (c .before .before .loop .inv .2) (c .before .before .loop .inv .0) (omega arith)
+
+pub one-by-one-spec : {M : Type 1} → statement M
+one-by-one-spec =
+    tie.close
+    (tie.spec
+    Inv-loop
+    μ-loop
+    empty-requires
+    loop-holds
+    found-requires
+    articles-requires
+    mark-requires
+    add-x
+    loop-less
+    loop-again
+    returns)

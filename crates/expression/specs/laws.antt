@@ -1,0 +1,6 @@
+-- What is proved of the rows of expressions.
+pub mod Holding
+pub mod Found
+pub mod Many
+pub mod Tally
+pub mod Reach

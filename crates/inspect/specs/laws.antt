@@ -1,0 +1,3 @@
+-- What is proved of the tests.
+pub mod Below
+pub mod Test

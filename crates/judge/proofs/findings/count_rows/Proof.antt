@@ -1,0 +1,78 @@
+-- `judge::findings::count_rows` meets its contract. The loop's invariant: the findings in the rows passed are counted. Assumes nothing.
+use Prim.Native.Nat.{_*_, _≤_, _-_}
+use native.Mathlib.Omega.{arith}
+use borrow.Author.Needs.{needs}
+use Rattle.logic.specs.Number.{Number}
+use Rattle.row.specs.own.Pick.{room}
+use Rattle.store.specs.Layout.{Holds}
+use Rattle.judge.specs.own.Cursor.{BrokenBelow}
+use Rattle.judge.specs.laws.Cursor.{count-none, count-more, count-all}
+use Rattle.judge.proofs.findings.count_rows.Statement.{statement}
+use Rattle.judge.proofs.findings.count_rows.Tie as tie
+
+abbrev Inv-loop : tie.InvT-loop
+Inv-loop words at counts plan n₀ x₀ n x = (x ≤ counts .items) × (n ≤ 64 * room * x) × Number (BrokenBelow (Holds (at .width) counts words) counts plan x) n
+
+abbrev μ-loop : tie.MeasureT-loop
+μ-loop words at counts plan n₀ x₀ n x = counts .items - x
+
+loop-holds : tie.Need-loop-holds Inv-loop μ-loop
+loop-holds c =
+    let start = c .before in
+    let n = start .args .counts in
+    let C = Holds (start .args .at .width) n (start .args .words .now) in
+    (omega arith, omega arith, count-none C n (start .args .plan))
+
+places-requires : tie.Need-places-requires Inv-loop μ-loop
+places-requires c κs = search needs
+
+ones-requires : tie.Need-ones-requires Inv-loop μ-loop
+ones-requires c κs = search needs
+
+add-n : tie.Need-add-n Inv-loop μ-loop
+add-n c =
+    let start = c .before .before .before .before .before .before in
+    let n = start .args .counts in
+    let C = Holds (start .args .at .width) n (start .args .words .now) in
+    omega (arith, c .ones .ensures .1, c .before .before .before .before .loop .inv .1, start .pre .1 .fits .items, start .pre .0 .wide)
+
+add-x : tie.Need-add-x Inv-loop μ-loop
+add-x c =
+    let start = c .before .before .before .before .before .before in
+    let n = start .args .counts in
+    let C = Holds (start .args .at .width) n (start .args .words .now) in
+    omega (arith, start .pre .1 .fits .items, start .pre .0 .wide)
+
+loop-less : tie.Need-loop-less Inv-loop μ-loop
+loop-less c = omega arith
+
+loop-again : tie.Need-loop-again Inv-loop μ-loop
+loop-again c =
+    let start = c .before .before .before .before .before .before in
+    let n = start .args .counts in
+    let C = Holds (start .args .at .width) n (start .args .words .now) in
+    let at-loop = c .before .before .before .before in
+    let at-if1 = c .before .before in
+    (omega arith, omega (arith, c .ones .ensures .1, at-loop .loop .inv .1), count-more C n (start .args .plan) (at-loop .loop .inv .2) (at-if1 .if1 .taken) (c .before .places .ensures) (c .ones .ensures .0))
+
+returns : tie.Need-returns Inv-loop μ-loop
+returns c =
+    let start = c .before .before .before .before in
+    let n = start .args .counts in
+    let C = Holds (start .args .at .width) n (start .args .words .now) in
+    count-all C n (start .args .plan) (c .before .before .loop .inv .2) (c .if1 .left)
+
+pub count-rows-spec : {M : Type 1} → statement M
+count-rows-spec =
+    tie.close
+    (tie.spec
+    Inv-loop
+    μ-loop
+    loop-holds
+    places-requires
+    ones-requires
+    add-n
+    add-x
+    loop-less
+    loop-again
+    returns)

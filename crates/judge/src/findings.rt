@@ -1,0 +1,137 @@
+ghost use mathlib.Core.Path.{_≡_};
+ghost use Prim.Native.Nat.{_*_, _≤_};
+ghost use Rattle.logic.specs.Number.{Number};
+ghost use Rattle.row.specs.own.Row.{RowHas};
+ghost use Rattle.row.specs.own.Pick.{room};
+ghost use Rattle.store.specs.Layout.{ClosedStore, Holds};
+ghost use Rattle.store.specs.own.Laid.{Laid};
+ghost use Rattle.judge.specs.own.Plan.{secondAt};
+ghost use Rattle.judge.specs.own.Cursor.{Advances, Begins, PlanBroken, Sought, currentOf};
+use crate::Cursor;
+use crate::Plan;
+use row::Row;
+use rule::Finding;
+use rule::Head;
+use rule::Second;
+use store::Counts;
+use store::Item;
+use store::Layout;
+
+// How many numbers the row has.
+fn ones(r: Row) -> u64
+    ensures { λ k. ⌜ Number (RowHas r) k × (k ≤ 64 * room) ⌝ }
+{
+    row::bit::count(&r)
+}
+
+// How many findings there are, row by row.
+fn count_rows(words: &[u64], at: Layout, counts: Counts, plan: Plan) -> u64
+    requires { ⌜ Laid at (now words) × ClosedStore (at .width) counts (now words) ⌝ }
+    ensures { λ r. ⌜ Number (PlanBroken (Holds (at .width) counts (now (words .entry))) counts plan) r ⌝ }
+{
+    let mut n: u64 = 0;
+    let mut x = 0;
+    while x < counts.items {
+        let places = crate::breaking::places(words, at, counts, plan, x);
+        n += ones(places);
+        x += 1;
+    }
+    n
+}
+
+// How many findings there are.
+pub fn count(words: &[u64], at: Layout, counts: Counts, plan: Plan) -> u64
+    requires { ⌜ Laid at (now words) × ClosedStore (at .width) counts (now words) ⌝ }
+    ensures { λ r. ⌜ Number (PlanBroken (Holds (at .width) counts (now (words .entry))) counts plan) r ⌝ }
+{
+    let head = plan.head;
+    if crate::breaking::is_pair(head) {
+        return count_rows(words, at, counts, plan);
+    }
+    ones(crate::breaking::alone_row(words, at, counts, plan))
+}
+
+// The cursor at the first finding from the row `from` on, or at the end.
+fn seek(words: &[u64], at: Layout, counts: Counts, plan: Plan, from: usize) -> Cursor
+    requires { ⌜ Laid at (now words) × ClosedStore (at .width) counts (now words) ⌝ }
+    ensures { λ r. ⌜ Sought (Holds (at .width) counts (now (words .entry))) counts plan from r ⌝ }
+{
+    let mut x = from;
+    while x < counts.items {
+        let left = crate::breaking::places(words, at, counts, plan, x);
+        let y = row::pick::least(&left);
+        if y < counts.items {
+            return Cursor {
+                plan,
+                row: left,
+                x,
+                y,
+            };
+        }
+        x += 1;
+    }
+    let none = row::pick::empty();
+    Cursor {
+        plan,
+        row: none,
+        x,
+        y: 0,
+    }
+}
+
+// The cursor at the first finding, or at the end.
+pub fn first(words: &[u64], at: Layout, counts: Counts, plan: Plan) -> Cursor
+    requires { ⌜ Laid at (now words) × ClosedStore (at .width) counts (now words) ⌝ }
+    ensures { λ r. ⌜ Begins (Holds (at .width) counts (now (words .entry))) counts plan r ⌝ }
+{
+    seek(words, at, counts, plan, 0)
+}
+
+// The cursor at the next finding; at the end it stays.
+pub fn advance(words: &[u64], at: Layout, counts: Counts, c: Cursor) -> Cursor
+    requires { ⌜ Laid at (now words) × ClosedStore (at .width) counts (now words) ⌝ }
+    ensures { λ r. ⌜ Advances (Holds (at .width) counts (now (words .entry))) counts c r ⌝ }
+{
+    let plan = c.plan;
+    let left = c.row;
+    let x = c.x;
+    if counts.items <= x {
+        return c;
+    }
+    let here = expression::reach::alone(c.y);
+    let rest = row::pick::without(&left, &here);
+    let y = row::pick::least(&rest);
+    if y < counts.items {
+        return Cursor {
+            plan,
+            row: rest,
+            x,
+            y,
+        };
+    }
+    seek(words, at, counts, plan, x + 1)
+}
+
+// The second item at a place.
+fn second_at(head: Head, y: usize) -> Second
+    ensures { λ r. ⌜ r ≡ secondAt head y ⌝ }
+{
+    if crate::breaking::is_pair(head) {
+        return Second::Item(Item(y));
+    }
+    Second::None
+}
+
+// The finding at the cursor, with the rule's number.
+pub fn current(c: Cursor, number: usize) -> Finding
+    ensures { λ r. ⌜ r ≡ currentOf number c ⌝ }
+{
+    let plan = c.plan;
+    let head = plan.head;
+    let second = second_at(head, c.y);
+    Finding {
+        rule: number,
+        item: Item(c.x),
+        second,
+    }
+}

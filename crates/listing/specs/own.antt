@@ -1,0 +1,3 @@
+-- How the list is written: no promise of an entry point mentions it.
+pub mod Listing
+pub mod Trail

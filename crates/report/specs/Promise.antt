@@ -1,0 +1,43 @@
+-- What is printed for a sheet, with a store of its own or a lent one, and what the lent store becomes.
+use mathlib.Core.Path.{_≡_}
+use mathlib.Core.List.{List, map}
+use Prim.Native.Nat.{ℕ, _≤_}
+use lib.ListN.{length, getD}
+use Rattle.store.specs.Layout.{size, width}
+use Rattle.sheet.specs.declared.Reading.{Reading}
+use Rattle.sheet.specs.Promise.{Prints, Reads, refusedText}
+use Rattle.sheet.specs.Said.{Said, SheetRule}
+use Rattle.text.specs.Text.{Wrote}
+
+-- the line number of the rule with the number k
+abbrev pub lineOf : Said → ℕ → ℕ
+lineOf x k = getD (map (λ (r : SheetRule). r .line) (x .rules)) k 0
+
+-- no text has more bytes: 200 lines of findings and the last one, or the line of a refused sheet
+abbrev pub textLimit : ℕ
+textLimit = 18700
+
+-- the text that is printed for the sheet was written at the start of the room, as far as it reaches, and r is its length
+pub record Pages (sheet room exit : List ℕ) (r : ℕ) : Type 0 where
+  pub text : List ℕ
+  pub prints : Prints sheet text
+  pub wrote : Wrote room 0 text exit r
+  pub short : r ≤ textLimit
+
+-- the text for a sheet and the store s: what is printed for the sheet; where s has another length than a store, that this is refused by 1
+pub data PrintsIn (sheet s : List ℕ) : List ℕ → Type 0 where
+  wrong-size : ¬ (length s ≡ size width) → PrintsIn sheet s (refusedText 0 1)
+  printed : {text : List ℕ} → length s ≡ size width → Prints sheet text → PrintsIn sheet s text
+
+-- the store s became t, as reading the sheet into it leaves it
+pub record ReadInto (sheet s t : List ℕ) : Type 0 where
+  pub answer : Reading
+  pub reads : Reads sheet s t answer
+
+-- the sheet was read into the store s, which became t, and the text for it was written at the start of the room, as far as it reaches; r is its length
+pub record PagesIn (sheet s t room exit : List ℕ) (r : ℕ) : Type 0 where
+  pub text : List ℕ
+  pub prints : PrintsIn sheet s text
+  pub left : ReadInto sheet s t
+  pub wrote : Wrote room 0 text exit r
+  pub short : r ≤ textLimit

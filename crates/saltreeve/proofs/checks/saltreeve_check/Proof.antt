@@ -1,0 +1,37 @@
+-- `saltreeve::checks::saltreeve_check` meets its contract. Assumes nothing.
+use native.Mathlib.Omega.{arith}
+use mir.Syntax.{w64}
+use mir.ValLaws.{toZ-ofZ}
+use Rattle.saltreeve.specs.laws.Check.{check-by}
+use borrow.Author.Needs.{needs}
+use Rattle.saltreeve.proofs.checks.saltreeve_check.Statement.{statement}
+use Rattle.saltreeve.proofs.checks.saltreeve_check.Tie as tie
+
+slice-aggregate-page : tie.Need-slice-aggregate-page
+slice-aggregate-page c = search needs
+
+page-requires : tie.Need-page-requires
+page-requires c κs = search needs
+
+slice-aggregate-hand : tie.Need-slice-aggregate-hand
+slice-aggregate-hand c = search needs
+
+hand-requires : tie.Need-hand-requires
+hand-requires c κs = search needs
+
+same-length : tie.Need-same-length
+same-length c = search needs
+
+returns : tie.Need-returns
+returns c = rw (toZ-ofZ w64 (c .before .before .hand .result) (record { sfits = omega (arith, c .before .before .hand .ok) })) (check-by (c .before .before .before .before .before .before .page .ensures) (omega (arith, c .before .before .before .before .before .before .page .ensures .short)) (c .before .before .hand .ensures))
+
+pub saltreeve-check-spec : {M : Type 1} → statement M
+saltreeve-check-spec =
+    tie.close
+    (tie.spec
+    slice-aggregate-page
+    page-requires
+    slice-aggregate-hand
+    hand-requires
+    same-length
+    returns)

@@ -1,0 +1,41 @@
+-- `saltreeve::checks::saltreeve_check_in` meets its contract. Assumes nothing.
+use native.Mathlib.Omega.{arith}
+use mir.Syntax.{w64}
+use mir.ValLaws.{toZ-ofZ}
+use Rattle.saltreeve.specs.laws.Check.{check-in-by}
+use borrow.Author.Needs.{needs}
+use Rattle.saltreeve.proofs.checks.saltreeve_check_in.Statement.{statement}
+use Rattle.saltreeve.proofs.checks.saltreeve_check_in.Tie as tie
+
+slice-aggregate-page-in : tie.Need-slice-aggregate-page-in
+slice-aggregate-page-in c = search needs
+
+page-in-requires : tie.Need-page-in-requires
+page-in-requires c κs = search needs
+
+slice-aggregate-hand : tie.Need-slice-aggregate-hand
+slice-aggregate-hand c = search needs
+
+hand-requires : tie.Need-hand-requires
+hand-requires c κs = search needs
+
+same-length : tie.Need-same-length
+same-length c = search needs
+
+same-length-2 : tie.Need-same-length-2
+same-length-2 c = search needs
+
+returns : tie.Need-returns
+returns c = rw (toZ-ofZ w64 (c .before .before .hand .result) (record { sfits = omega (arith, c .before .before .hand .ok) })) (check-in-by (c .before .before .before .before .before .before .before .before .page-in .ensures) (omega (arith, c .before .before .before .before .before .before .before .before .page-in .ensures .short)) (c .before .before .hand .ensures))
+
+pub saltreeve-check-in-spec : {M : Type 1} → statement M
+saltreeve-check-in-spec =
+    tie.close
+    (tie.spec
+    slice-aggregate-page-in
+    page-in-requires
+    slice-aggregate-hand
+    hand-requires
+    same-length
+    same-length-2
+    returns)

@@ -1,0 +1,2 @@
+-- What the functions on bytes do: no promise of an entry point mentions it.
+pub mod Split
