@@ -5,8 +5,8 @@
  * saltreeve_check and the four functions after it, which stand last below, take
  * a sheet's bytes; docs/HOST.md has examples. The others work on a store: the
  * caller lends 4,528 words of 64 bits and says with each call how many
- * items, concepts and roles are declared. Items, concepts and roles are
- * numbered apart, each from 0.
+ * items, concepts and roles are declared (saltreeve_compile has no store, only
+ * these counts). Items, concepts and roles are numbered apart, each from 0.
  *
  *   cell                          word                        bit (0 is the lowest)
  *   a same as b                   2a + b/64                   b mod 64
@@ -19,7 +19,7 @@
  * Divisions drop the rest. All other bits are 0.
  *
  * Those functions hand back a count, of cells where nothing else is said, or
- * minus the number of refusal:
+ * minus the number of refusal, of which some calls have more:
  *
  *   -1  length is not 4,528, or a declared count is over its limit
  *   -2  the store is not closed: a cell that follows from its cells and the
@@ -30,7 +30,7 @@
  *
  * Where more than one applies, the lowest number is given. A refusal changes
  * no word. `words` must point to `length` words that the caller may read and
- * write; NULL is not allowed. Nothing is kept between calls of any function:
+ * write (saltreeve_findings only reads them); NULL is not allowed. Nothing is kept between calls of any function:
  * all there is to know is in what is lent and the numbers given.
  */
 #ifndef SALTREEVE_H
@@ -227,6 +227,9 @@ int64_t saltreeve_findings(const uint64_t *words, size_t length,
  * first, or SALTREEVE_QUERY_ITEM + a for item a. All items of a query hold together.
  * What stands between an opening and its closing not does not hold: there are no
  * values at which it does for the variables first met in it, answer variables apart.
+ * Any other variable need only have a value. A variable stands for a declared item,
+ * also an answer variable that occurs nowhere. With no answer variable the query is
+ * a yes or no: yes exactly if the rule has its one finding.
  * The words past the query are untouched, and so is the room by a refusal:
  *
  *   -1  a declared count is over its limit

@@ -14,10 +14,6 @@ use Rattle.rule.specs.declared.Rule.{Rule}
 use Rattle.rule.specs.declared.Slot.{Slot}
 use Rattle.rule.specs.Form.{nodeLimit}
 
--- the number of words of a rule
-abbrev pub ruleWords : ℕ
-ruleWords = 173
-
 -- the place of the number of nodes, the place where the nodes begin, and the words of a node
 abbrev pub countPlace : ℕ
 countPlace = 12
@@ -27,6 +23,10 @@ firstPlace = 13
 
 abbrev pub nodeWords : ℕ
 nodeWords = 5
+
+-- the number of words of a rule: 173
+abbrev pub ruleWords : ℕ
+ruleWords = firstPlace + nodeWords * nodeLimit
 
 -- the word at place i, 0 past the end
 abbrev pub word : List ℕ → ℕ → ℕ

@@ -17,10 +17,6 @@ use Rattle.field.specs.declared.StatementWord.the-variants as statement
 use Rattle.field.specs.Words.{Field, operatorOf}
 use Rattle.rule.specs.Form.{shortest, longest}
 
--- the most fields of a line-up
-abbrev pub lineupLimit : ℕ
-lineupLimit = 5
-
 -- so many fields
 abbrev pub one : Due → Lineup
 one a = record { count = 1; first = a; second = Nothing; third = Nothing; fourth = Nothing; fifth = Nothing }

@@ -12,6 +12,7 @@ ghost use Rattle.listing.specs.own.Trail.{Going, Went};
 use field::Table;
 use judge::Search;
 use judge::Total;
+use row::Row;
 use rule::Finding;
 use rule::Head;
 use rule::Rule;
@@ -24,9 +25,9 @@ struct Trail {
     pub finding: Finding,
     pub x: usize,
     pub y: usize,
-    pub row: [u64; 8],
-    pub left: [u64; 8],
-    pub right: [u64; 8],
+    pub row: Row,
+    pub left: Row,
+    pub right: Row,
     pub head: Head,
     pub at: Layout,
     pub counts: Counts,

@@ -15,6 +15,7 @@ use rule::Finding;
 use rule::Rule;
 use rule::Second;
 use store::Item;
+use store::Store;
 
 // The name of an item; no bytes where there is none with that number.
 fn name(sheet: &[u8], t: Table, a: Item) -> &[u8]
@@ -25,7 +26,7 @@ fn name(sheet: &[u8], t: Table, a: Item) -> &[u8]
     let i = a.0;
     let none = text::part::part(sheet, 0, 0);
     if i < counts.items {
-        if i < 128 {
+        if i < Store::ITEMS {
             return field::names::name_at(sheet, entries[i]);
         }
         return none;

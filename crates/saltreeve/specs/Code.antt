@@ -1,13 +1,13 @@
 -- The answers of the entry points as signed numbers: the cells, or minus the number of refusal.
 use mathlib.Core.Path.{_≡_}
 use mathlib.Core.List.{List}
-use Prim.Native.Nat.{ℕ, _*_, _≤_}
+use Prim.Native.Nat.{ℕ}
 use lib.IntN.{ℤ, pos, negℤ}
 use Rattle.store.specs.declared.Counts.{Counts}
 use Rattle.closure.specs.declared.Answer.{Answer}
 use Rattle.closure.specs.declared.Answer.the-variants.{Cells, Refused}
 use Rattle.store.specs.Cell.{Cell}
-use Rattle.store.specs.Layout.{size, width}
+use Rattle.store.specs.Layout.{width}
 use Rattle.closure.specs.Refusal.{number}
 use Rattle.closure.specs.Promise.{Makes, Adds}
 
@@ -15,11 +15,6 @@ use Rattle.closure.specs.Promise.{Makes, Adds}
 abbrev pub codeOf : Answer → ℤ
 codeOf (Cells m) = pos m
 codeOf (Refused k) = negℤ (pos (number k))
-
--- an answer whose cells a store can have
-abbrev pub Small : Answer → Type 0
-Small (Cells m) = m ≤ 64 * size width
-Small (Refused k) = Unit {0}
 
 -- the declared counts
 abbrev pub counts : ℕ → ℕ → ℕ → Counts

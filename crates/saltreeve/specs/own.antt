@@ -1,2 +1,3 @@
 -- What the parts of the code do, which no promise mentions.
+pub mod Code
 pub mod Room

@@ -4,7 +4,8 @@ ghost use mathlib.Core.Bool.{not};
 ghost use lib.Dec.{eqb};
 ghost use Rattle.store.specs.Cell.{cellOf};
 ghost use Rattle.store.specs.Cell.Cell.{Same, Under, RoleUnder, In, Link};
-ghost use Rattle.saltreeve.specs.Code.{AddCode, FreshCode, Small, codeOf, counts};
+ghost use Rattle.saltreeve.specs.Code.{AddCode, FreshCode, codeOf, counts};
+ghost use Rattle.saltreeve.specs.own.Code.{Small};
 
 pub mod checks;
 pub mod reasons;

@@ -3,7 +3,7 @@ ghost use Prim.Native.Nat.{_+_, _*_, _≤_, _<_};
 ghost use lib.ListN.{length};
 ghost use Rattle.logic.specs.own.Decides.{Decides};
 ghost use Rattle.row.specs.own.Pick.{Marks, room};
-ghost use Rattle.store.specs.Cell.{cellOf, DeclaredItem};
+ghost use Rattle.store.specs.Cell.{cellOf, DeclaredConcept, DeclaredItem, DeclaredRole};
 ghost use Rattle.store.specs.Cell.Cell.{Same, Under, RoleUnder, In, Link};
 ghost use Rattle.store.specs.Layout.{ClosedStore, Holds, itemLimit, linkAt, roleLimit};
 ghost use Rattle.store.specs.own.Laid.{Laid, widest};
@@ -133,7 +133,7 @@ pub fn link(words: &[u64], at: Layout, counts: Counts, r: Role, a: Item, b: Item
 
 // The row p, and the items that the role r links a to.
 pub fn join_links(words: &[u64], at: Layout, counts: Counts, r: Role, a: Item, p: &Row) -> Row
-    requires { ⌜ Laid at (now words) × ClosedStore (at .width) counts (now words) × (r .0 < counts .roles) × DeclaredItem counts (a .0) ⌝ }
+    requires { ⌜ Laid at (now words) × ClosedStore (at .width) counts (now words) × DeclaredRole counts (r .0) × DeclaredItem counts (a .0) ⌝ }
     ensures { λ t. ⌜ LinksJoined (Holds (at .width) counts (now (words .entry))) counts (r .0) (a .0) (now (p .entry)) t ⌝ }
 {
     let from = link_row(at, r, a);
@@ -142,7 +142,7 @@ pub fn join_links(words: &[u64], at: Layout, counts: Counts, r: Role, a: Item, p
 
 // The row t takes on the items that the role r links a to.
 pub fn add_links(words: &[u64], at: Layout, counts: Counts, r: Role, a: Item, t: &mut Row)
-    requires { ⌜ Laid at (now words) × ClosedStore (at .width) counts (now words) × (r .0 < counts .roles) × DeclaredItem counts (a .0) × (length (now t) ≡ room) ⌝ }
+    requires { ⌜ Laid at (now words) × ClosedStore (at .width) counts (now words) × DeclaredRole counts (r .0) × DeclaredItem counts (a .0) × (length (now t) ≡ room) ⌝ }
     ensures { λ _. ⌜ (length (now (t .exit)) ≡ room) × LinksJoined (Holds (at .width) counts (now (words .entry))) counts (r .0) (a .0) (now (t .entry)) (now (t .exit)) ⌝ }
 {
     let from = link_row(at, r, a);
@@ -151,7 +151,7 @@ pub fn add_links(words: &[u64], at: Layout, counts: Counts, r: Role, a: Item, t:
 
 // Whether the role r links a to an item of the row p.
 pub fn links_meet(words: &[u64], at: Layout, counts: Counts, r: Role, a: Item, p: &Row) -> bool
-    requires { ⌜ Laid at (now words) × ClosedStore (at .width) counts (now words) × (r .0 < counts .roles) × DeclaredItem counts (a .0) ⌝ }
+    requires { ⌜ Laid at (now words) × ClosedStore (at .width) counts (now words) × DeclaredRole counts (r .0) × DeclaredItem counts (a .0) ⌝ }
     ensures { λ t. ⌜ Decides t (LinksMeet (Holds (at .width) counts (now (words .entry))) (r .0) (a .0) (now (p .entry))) ⌝ }
 {
     let from = link_row(at, r, a);
@@ -160,7 +160,7 @@ pub fn links_meet(words: &[u64], at: Layout, counts: Counts, r: Role, a: Item, p
 
 // The items that the role r links to x.
 pub fn back_row(words: &[u64], at: Layout, counts: Counts, r: Role, x: Item) -> Row
-    requires { ⌜ Laid at (now words) × ClosedStore (at .width) counts (now words) × (r .0 < counts .roles) × DeclaredItem counts (x .0) ⌝ }
+    requires { ⌜ Laid at (now words) × ClosedStore (at .width) counts (now words) × DeclaredRole counts (r .0) × DeclaredItem counts (x .0) ⌝ }
     ensures { λ t. ⌜ Marks (counts .items) t (λ y. Holds (at .width) counts (now (words .entry)) (Link (r .0) y (x .0))) ⌝ }
 {
     let width = at.width;
@@ -170,7 +170,7 @@ pub fn back_row(words: &[u64], at: Layout, counts: Counts, r: Role, x: Item) -> 
 
 // The items in the concept c.
 pub fn concept_row(words: &[u64], at: Layout, counts: Counts, c: Concept) -> Row
-    requires { ⌜ Laid at (now words) × ClosedStore (at .width) counts (now words) × (c .0 < counts .concepts) ⌝ }
+    requires { ⌜ Laid at (now words) × ClosedStore (at .width) counts (now words) × DeclaredConcept counts (c .0) ⌝ }
     ensures { λ r. ⌜ Marks (counts .items) r (λ x. Holds (at .width) counts (now (words .entry)) (In x (c .0))) ⌝ }
 {
     row::copy::column(words, at.item, 1, c.0 as u64, at.width)

@@ -11,6 +11,10 @@ use Rattle.store.specs.Layout.{Fits, width, conceptLimit, roleLimit, itemLimit}
 use Rattle.field.specs.declared.Table.{Table}
 use Rattle.field.specs.Names.{Names}
 
+-- the most fields of a line-up
+abbrev pub lineupLimit : ℕ
+lineupLimit = 5
+
 -- how many tags, places and lengths an entry can tell, and how many entries have the same tag
 abbrev pub tagCount : ℕ
 tagCount = 2048

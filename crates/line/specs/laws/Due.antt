@@ -17,7 +17,8 @@ use Rattle.field.specs.declared.Lineup.{Lineup}
 use Rattle.field.specs.declared.Operator.{Operator}
 use Rattle.field.specs.declared.Operator.the-variants as operator
 use Rattle.line.specs.declared.Pending.{Pending}
-use Rattle.field.specs.Due.{dues, isExpr, lineupLimit, wanted}
+use Rattle.field.specs.Due.{dues, isExpr, wanted}
+use Rattle.field.specs.own.Table.{lineupLimit}
 use Rattle.line.specs.Fault.{none}
 use Rattle.line.specs.own.Walk.{before, pending, opening, Stepped, Step}
 

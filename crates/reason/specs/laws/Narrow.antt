@@ -4,7 +4,8 @@ use mathlib.Core.List.{List, [], _∷_, _++_, append-nil}
 use Prim.Native.Nat.{ℕ}
 use native.Mathlib.Omega.{arith}
 use Rattle.logic.specs.Number.{One}
-use Rattle.reason.specs.Part.{Grows, Minimal, Part}
+use Rattle.reason.specs.own.Grows.{Grows}
+use Rattle.reason.specs.Part.{Minimal, Part}
 use Rattle.reason.specs.laws.Part.{minimal-by-one, one-joined, one-left, one-right}
 
 -- The loop's invariant. Those in front and those kept are enough; and whichever is kept, it is needed as long as all in front are there.

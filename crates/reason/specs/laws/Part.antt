@@ -8,7 +8,8 @@ use lib.ListN.{length}
 use Rattle.logic.specs.Number.{One}
 use Rattle.logic.specs.Number.One.{first, later}
 use Rattle.logic.specs.laws.Number.{one-cases}
-use Rattle.reason.specs.Part.{Grows, Minimal, Part}
+use Rattle.reason.specs.own.Grows.{Grows}
+use Rattle.reason.specs.Part.{Minimal, Part}
 use Rattle.reason.specs.Part.Part.{none, keep, leave}
 
 module _ {A : Type 0} where

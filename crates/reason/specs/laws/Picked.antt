@@ -12,7 +12,8 @@ use Rattle.row.specs.own.Pick.{Marked}
 use Rattle.row.specs.own.Row.{rowHasb}
 use Rattle.row.specs.own.Bit.{hasb}
 use Rattle.row.specs.laws.Bit.{has-hasb, hasb-has, hasb-not, not-hasb, zero-none}
-use Rattle.reason.specs.Part.{Grows, Minimal, Part}
+use Rattle.reason.specs.own.Grows.{Grows}
+use Rattle.reason.specs.Part.{Minimal, Part}
 use Rattle.reason.specs.Part.Part.{none, keep, leave}
 use Rattle.reason.specs.own.Picked.{Sets, Until, pickedFrom}
 use Rattle.reason.specs.laws.Narrow.{Narrowed, narrow-start, narrow-step, narrow-stop}

@@ -11,7 +11,8 @@ use lib.ListN.{length, getD}
 use Rattle.logic.specs.Number.{One}
 use Rattle.logic.specs.Number.One.{first, later}
 use Rattle.logic.specs.laws.Number.{one-cases, one-none}
-use Rattle.reason.specs.Part.{Grows, Minimal, Part}
+use Rattle.reason.specs.own.Grows.{Grows}
+use Rattle.reason.specs.Part.{Minimal, Part}
 use Rattle.reason.specs.Part.Part.{keep, leave}
 use Rattle.reason.specs.own.Picked.{pickedFrom}
 use Rattle.reason.specs.laws.Part.{minimal-by-one, one-right, part-all}

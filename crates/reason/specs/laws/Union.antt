@@ -17,7 +17,8 @@ use Rattle.reason.specs.own.Aim.{Joins}
 use Rattle.reason.specs.own.Code.{Coded, cellAt}
 use Rattle.reason.specs.own.Code.Coded.{coded}
 use Rattle.reason.specs.own.Fact.{Along, Found, Meets, factOf, kindAbove}
-use Rattle.reason.specs.Part.{Grows, Minimal}
+use Rattle.reason.specs.own.Grows.{Grows}
+use Rattle.reason.specs.Part.{Minimal}
 use Rattle.reason.specs.own.Picked.{pickedFrom}
 use Rattle.reason.specs.own.Walk.{CellStep}
 use Rattle.reason.specs.own.Walk.CellStep.{same, same-back, under, role, role-turned}

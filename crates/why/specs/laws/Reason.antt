@@ -13,7 +13,7 @@ use Rattle.closure.specs.Lines.{Stated}
 use Rattle.closure.specs.Lines.Stated.{stated}
 use Rattle.store.specs.laws.Least.{follows-all}
 use Rattle.sheet.specs.Said.{SheetStatement, statementsOf}
-use Rattle.reason.specs.Part.{Grows}
+use Rattle.reason.specs.own.Grows.{Grows}
 use Rattle.why.specs.Reason.{FollowsFrom}
 
 -- what follows from some cells follows from more
