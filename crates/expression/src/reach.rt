@@ -10,7 +10,7 @@ ghost use Rattle.store.specs.Layout.{ClosedStore, Holds};
 ghost use Rattle.store.specs.own.Laid.{Laid};
 ghost use Rattle.rule.specs.Meaning.{Linked, LinkedWay};
 ghost use Rattle.rule.specs.Breaks.{Path};
-ghost use Rattle.expression.specs.own.Reach.{Alone, Gathered, Reached};
+ghost use Rattle.expression.specs.own.Reach.{Gathered, ItemRow, Reached};
 ghost use Rattle.store.specs.Cell.{DeclaredItem};
 use row::ROOM;
 use row::Row;
@@ -91,9 +91,9 @@ pub fn step_row(words: &[u64], at: Layout, counts: Counts, u: RoleUse, p: &Row) 
     forward(words, at, counts, role, p)
 }
 
-// The row of x alone; a number past the row's bits is in none.
-pub fn alone(x: usize) -> Row
-    ensures { λ r. ⌜ Alone x r ⌝ }
+// The row of the item x alone; a number past the row's bits is in none.
+pub fn item_row(x: usize) -> Row
+    ensures { λ r. ⌜ ItemRow x r ⌝ }
 {
     if 64 * ROOM <= x {
         return row::pick::empty();
@@ -119,7 +119,7 @@ pub fn path_row(
     ensures { λ r. ⌜ Marks (counts .items) r (Path (Holds (at .width) counts (now (words .entry))) counts (take k (a ∷ b ∷ c ∷ d ∷ [])) x) ⌝ }
 {
     if k == 0 {
-        return alone(x);
+        return item_row(x);
     }
     let first = crate::found::links(words, at, counts, a, x);
     if k == 1 {

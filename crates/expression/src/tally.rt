@@ -58,7 +58,7 @@ fn blank() -> [u64; TALLIES]
 }
 
 // The row of the tallies at `from` takes on what the row before it and the row r have in common.
-fn take_on(t: &mut [u64; TALLIES], r: &Row, from: usize, width: usize)
+fn move_up(t: &mut [u64; TALLIES], r: &Row, from: usize, width: usize)
     requires { ⌜ (length (now t) ≡ tallyRoom) × (room ≤ from) × (from + width ≤ tallyRoom) × (width ≤ room) ⌝ }
     ensures { λ _. ⌜ Mapped (takenOn (now (t .entry)) (now (r .entry)) from) from (from + width) (now (t .entry)) (now (t .exit)) ⌝ }
 {
@@ -77,7 +77,7 @@ fn count_row(t: &mut [u64; TALLIES], r: &Row, k: usize, width: usize)
 {
     let mut j = k;
     while 0 < j {
-        take_on(t, r, ROOM * j, width);
+        move_up(t, r, ROOM * j, width);
         j -= 1;
     }
 }

@@ -98,7 +98,7 @@ pub fn advance(words: &[u64], at: Layout, counts: Counts, c: Cursor) -> Cursor
     if counts.items <= x {
         return c;
     }
-    let here = expression::reach::alone(c.y);
+    let here = expression::reach::item_row(c.y);
     let rest = row::pick::without(&left, &here);
     let y = row::pick::least(&rest);
     if y < counts.items {

@@ -22,7 +22,7 @@ fn new_name(found: usize, count: usize, room: usize) -> usize
     0
 }
 
-// What is wrong with a name that is to be declared, and is at a place among the names, of so many.
+// What is wrong with a name that is to be one of those declared, of which there are so many, and was found at a place among them; past them it is none of them.
 fn old_name(f: &[u8], found: usize, count: usize) -> usize
     ensures { λ r. ⌜ r ≡ fault (not (isName (now (f .entry)))) 15 (fault (not (ltb found count)) 19 0) ⌝ }
 {

@@ -21,7 +21,7 @@ use Rattle.store.specs.own.Look.{LinksJoined, LinksMeet}
 use Rattle.rule.specs.declared.RoleUse.{RoleUse}
 use Rattle.rule.specs.Meaning.{LinkedWay, Linked}
 use Rattle.rule.specs.Breaks.{Path}
-use Rattle.expression.specs.own.Reach.{Reached, Ends, Gathered, Alone}
+use Rattle.expression.specs.own.Reach.{Reached, Ends, Gathered, ItemRow}
 
 -- ---- the items that the items of a row are linked to
 
@@ -69,12 +69,12 @@ reached-back role y d = decides-iff (λ m. record { from = m .item; has = m .has
 -- ---- paths
 
 -- the row of x alone
-pub alone-marked : {x : ℕ} {s t : List ℕ} → Empty s → Marked true x s t → Alone x t
-alone-marked e m = record { has = λ l. m .gets refl; only = λ y h. ⊎-elim (λ z. absurd (e .none y z)) (λ z. z .1) (m .only y h) }
+pub item-row-marked : {x : ℕ} {s t : List ℕ} → Empty s → Marked true x s t → ItemRow x t
+item-row-marked e m = record { has = λ l. m .gets refl; only = λ y h. ⊎-elim (λ z. absurd (e .none y z)) (λ z. z .1) (m .only y h) }
 
 -- a number past the row's bits
-pub alone-past : {x : ℕ} {r : List ℕ} → 64 * room ≤ x → Empty r → Alone x r
-alone-past l e = record { has = λ h. absurd (omega arith); only = λ y h. absurd (e .none y h) }
+pub item-row-past : {x : ℕ} {r : List ℕ} → 64 * room ≤ x → Empty r → ItemRow x r
+item-row-past l e = record { has = λ h. absurd (omega arith); only = λ y h. absurd (e .none y h) }
 
 module _ (C : Cell → Type 0) (n : Counts) where
   -- no role: the row itself
@@ -97,7 +97,7 @@ module _ (C : Cell → Type 0) (n : Counts) where
   ends-last p q u m = ends-more p q u m (ends-none q (λ y h. m .sound y h .0))
 
   -- a path of no role: the item itself
-  pub path-none : (x : ℕ) {r : List ℕ} → DeclaredItem n x → n .items ≤ 64 * room → Alone x r → Marks (n .items) r (Path C n [] x)
+  pub path-none : (x : ℕ) {r : List ℕ} → DeclaredItem n x → n .items ≤ 64 * room → ItemRow x r → Marks (n .items) r (Path C n [] x)
   path-none x {r} l small a = record {
     sound = λ y h. (omega (arith, a .only y h), sym (a .only y h));
     whole = λ y ly e. subst (λ (z : ℕ). RowHas r z) e (a .has (omega arith));

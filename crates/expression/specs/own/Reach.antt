@@ -27,6 +27,6 @@ pub record Gathered (n : ℕ) (L : ℕ → ℕ → Type 0) (P : ℕ → Type 0) 
   pub whole : (x y : ℕ) → x < z → P x → L x y → RowHas r y
 
 -- r has x, if there is room for it, and no other number
-pub record Alone (x : ℕ) (r : List ℕ) : Type 0 where
+pub record ItemRow (x : ℕ) (r : List ℕ) : Type 0 where
   pub has : x < 64 * room → RowHas r x
   pub only : (y : ℕ) → RowHas r y → y ≡ x

@@ -22,7 +22,7 @@ use Rattle.rule.specs.declared.Head.{Head}
 use Rattle.judge.specs.declared.Plan.{Plan}
 use Rattle.rule.specs.declared.Second.{Second}
 use Rattle.rule.specs.Findings.{Before, SecondBefore, findingOf}
-use Rattle.expression.specs.own.Reach.{Alone}
+use Rattle.expression.specs.own.Reach.{ItemRow}
 use Rattle.judge.specs.own.Plan.{BreaksBy, PlaceBreaks, PlaceIf, PlanBreaks, isPair, placeOf, secondAt, secondIf}
 use Rattle.judge.specs.own.Cursor.{Advances, Ahead, Begins, BrokenBelow, Gone, Left, Listed, PlanBroken, Sought, Stands, currentOf}
 use Rattle.judge.specs.laws.Plan.{breaks-item, breaks-place, breaks-second, place-breaks, place-second, place-unique}
@@ -167,7 +167,7 @@ module _ {C : Cell → Type 0} {n : Counts} where
       over : {x : ℕ} → (c .x ≤ x) × DeclaredItem n x → ⊥
       over q = omega (arith, q .0, q .1)
 
-module _ (C : Cell → Type 0) (n : Counts) (c : declared.Cursor) (lx : DeclaredItem n (c .x)) (w : n .items ≤ 64 * room) {here rest : List ℕ} (one : Alone (c .y) here) (less : Without (c .row) here rest) where
+module _ (C : Cell → Type 0) (n : Counts) (c : declared.Cursor) (lx : DeclaredItem n (c .x)) (w : n .items ≤ 64 * room) {here rest : List ℕ} (one : ItemRow (c .y) here) (less : Without (c .row) here rest) where
   -- what is left in the row, and the one that is not
   rest-has : Stands C n c → (y : ℕ) → RowHas (c .row) y → ¬ (y ≡ c .y) → RowHas rest y
   rest-has k y h e = less .has y (omega (arith, k .row y h .1)) h (λ z. e (one .only y z))

@@ -6,15 +6,15 @@ use Rattle.expression.specs.laws.Reach.{ends-last, ends-more, ends-none,
 use Rattle.expression.proofs.reach.path_row.Statement.{statement}
 use Rattle.expression.proofs.reach.path_row.Tie as tie
 
-alone-requires : tie.Need-alone-requires
-alone-requires c κs = search needs
+item-row-requires : tie.Need-item-row-requires
+item-row-requires c κs = search needs
 
 returns : tie.Need-returns
 returns c =
     let start = c .before .before .before in
     let n = start .args .counts in
     let C = Holds (start .args .at .width) n (start .args .words .now) in
-    rw (c .before .if1 .taken) (path-none C n (start .args .x) (start .pre .2) (omega (arith, start .pre .1 .fits .items, start .pre .0 .wide)) (c .alone .ensures))
+    rw (c .before .if1 .taken) (path-none C n (start .args .x) (start .pre .2) (omega (arith, start .pre .1 .fits .items, start .pre .0 .wide)) (c .item-row .ensures))
 
 links-requires : tie.Need-links-requires
 links-requires c κs = search needs
@@ -82,7 +82,7 @@ pub path-row-spec : {M : Type 1} → statement M
 path-row-spec =
     tie.close
     (tie.spec
-    alone-requires
+    item-row-requires
     returns
     links-requires
     returns-2

@@ -16,11 +16,11 @@ abbrev μ-loop : tie.MeasureT-loop
 loop-holds : tie.Need-loop-holds Inv-loop μ-loop
 loop-holds c = (omega arith, counted-none _ _ _ _)
 
-mul-take-on : tie.Need-mul-take-on Inv-loop μ-loop
-mul-take-on c = omega arith
+mul-move-up : tie.Need-mul-move-up Inv-loop μ-loop
+mul-move-up c = omega arith
 
-take-on-requires : tie.Need-take-on-requires Inv-loop μ-loop
-take-on-requires c κs = search needs
+move-up-requires : tie.Need-move-up-requires Inv-loop μ-loop
+move-up-requires c κs = search needs
 
 sub-j : tie.Need-sub-j Inv-loop μ-loop
 sub-j c = omega arith
@@ -29,7 +29,7 @@ loop-less : tie.Need-loop-less Inv-loop μ-loop
 loop-less c = omega arith
 
 loop-again : tie.Need-loop-again Inv-loop μ-loop
-loop-again c = (omega arith, counted-more (c .before .before .before .loop .inv .1) (omega arith) (omega arith) (c .take-on .ensures))
+loop-again c = (omega arith, counted-more (c .before .before .before .loop .inv .1) (omega arith) (omega arith) (c .move-up .ensures))
 
 returns : tie.Need-returns Inv-loop μ-loop
 returns c = counted-done (c .before .loop .inv .1) (omega arith)
@@ -41,8 +41,8 @@ count-row-spec =
     Inv-loop
     μ-loop
     loop-holds
-    mul-take-on
-    take-on-requires
+    mul-move-up
+    move-up-requires
     sub-j
     loop-less
     loop-again

@@ -11,8 +11,8 @@ use Rattle.judge.proofs.findings.advance.Tie as tie
 returns : tie.Need-returns
 returns c = advances-end (c .if1 .taken)
 
-alone-requires : tie.Need-alone-requires
-alone-requires c κs = search needs
+item-row-requires : tie.Need-item-row-requires
+item-row-requires c κs = search needs
 
 without-requires : tie.Need-without-requires
 without-requires c κs = search needs
@@ -27,10 +27,10 @@ returns-2 c =
     let C = Holds (start .args .at .width) n (start .args .words .now) in
     let w : n .items ≤ 64 * room = omega (arith, start .pre .1 .fits .items, start .pre .0 .wide) in
     let at-if1 = c .before .before .before .before .before .before .before .before in
-    let at-alone = c .before .before .before .before .before .before .before in
+    let at-item-row = c .before .before .before .before .before .before .before in
     let at-without = c .before .before .before .before in
     let at-least = c .before .before in
-    advances-row C n (start .args .c) (at-if1 .if1 .left) w (at-alone .alone .ensures) (at-without .without .ensures) (at-least .least .ensures) (c .if2 .taken)
+    advances-row C n (start .args .c) (at-if1 .if1 .left) w (at-item-row .item-row .ensures) (at-without .without .ensures) (at-least .least .ensures) (c .if2 .taken)
 
 add-seek : tie.Need-add-seek
 add-seek c = search needs
@@ -45,17 +45,17 @@ returns-3 c =
     let C = Holds (start .args .at .width) n (start .args .words .now) in
     let w : n .items ≤ 64 * room = omega (arith, start .pre .1 .fits .items, start .pre .0 .wide) in
     let at-if1 = c .before .before .before .before .before .before .before .before .before in
-    let at-alone = c .before .before .before .before .before .before .before .before in
+    let at-item-row = c .before .before .before .before .before .before .before .before in
     let at-without = c .before .before .before .before .before in
     let at-least = c .before .before .before in
-    advances-rows C n (start .args .c) (at-if1 .if1 .left) w (at-alone .alone .ensures) (at-without .without .ensures) (at-least .least .ensures) (c .before .if2 .left) (c .seek .ensures)
+    advances-rows C n (start .args .c) (at-if1 .if1 .left) w (at-item-row .item-row .ensures) (at-without .without .ensures) (at-least .least .ensures) (c .before .if2 .left) (c .seek .ensures)
 
 pub advance-spec : {M : Type 1} → statement M
 advance-spec =
     tie.close
     (tie.spec
     returns
-    alone-requires
+    item-row-requires
     without-requires
     least-requires
     returns-2

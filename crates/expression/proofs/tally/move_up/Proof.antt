@@ -1,12 +1,12 @@
--- `expression::tally::take_on` meets its contract. The loop's invariant is the contract for the first `h` words. Assumes nothing.
+-- `expression::tally::move_up` meets its contract. The loop's invariant is the contract for the first `h` words. Assumes nothing.
 use Prim.Native.Nat.{_+_, _-_, _≤_}
 use native.Mathlib.Omega.{arith}
 use Rattle.row.specs.own.Change.{Mapped}
 use Rattle.row.specs.laws.Mapped.{mapped-done, mapped-none}
 use Rattle.expression.specs.own.Tally.{takenOn}
 use Rattle.expression.specs.laws.Tally.{taken-more}
-use Rattle.expression.proofs.tally.take_on.Statement.{statement}
-use Rattle.expression.proofs.tally.take_on.Tie as tie
+use Rattle.expression.proofs.tally.move_up.Statement.{statement}
+use Rattle.expression.proofs.tally.move_up.Tie as tie
 
 abbrev Inv-loop : tie.InvT-loop
 Inv-loop t₀ r from width h₀ t h = (h ≤ width) × Mapped (takenOn t₀ r from) from (from + h) t₀ t
@@ -59,8 +59,8 @@ loop-again c = (omega arith, taken-more _ (c .before .before .before .before .lo
 returns : tie.Need-returns Inv-loop μ-loop
 returns c = mapped-done (c .before .loop .inv .1) (omega arith) (omega arith)
 
-pub take-on-spec : {M : Type 1} → statement M
-take-on-spec =
+pub move-up-spec : {M : Type 1} → statement M
+move-up-spec =
     tie.close
     (tie.spec
     Inv-loop
