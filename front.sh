@@ -8,15 +8,23 @@ program=$root/target/bin/$crate
 status=3
 trap 'exit "$status"' EXIT
 
+# Where nobody reads standard output any more, the writing fails and is told, as 3; the command is not killed by it.
+trap '' PIPE
+
 # Says why the work was not done, and ends.
 fail() {
     printf '%s: %s\n' "$name" "$*" >&2
     exit
 }
 
+# Says that the text went nowhere, and ends.
+unwritten() {
+    fail "the text could not be written to standard output"
+}
+
 # Prints what a command like usage prints, and ends.
 show() {
-    "$@" 2>/dev/null || fail "the text could not be written to standard output"
+    "$@" 2>/dev/null || unwritten
     status=0
     exit
 }
@@ -46,6 +54,6 @@ build() {
 
 # Passes on the program's text, and ends the command with the status given.
 pass_on() {
-    printf '%s\n' "$1" 2>/dev/null || fail "the text could not be written to standard output"
+    printf '%s\n' "$1" 2>/dev/null || unwritten
     status=$2
 }

@@ -7,6 +7,7 @@ program, which keeps the bytes that it reads and prints what the test lays down 
 """
 
 import os
+import pty
 import shutil
 import subprocess
 import sys
@@ -18,7 +19,7 @@ sys.dont_write_bytecode = True  # keeps the folder of the tests free of build pr
 
 import harness
 
-TOOLS = ("awk", "bash", "cat", "chmod", "dirname", "flock", "grep", "mkdir", "readlink")
+TOOLS = ("awk", "bash", "cat", "chmod", "dirname", "flock", "grep", "head", "mkdir", "readlink")
 EVERY_BYTE = bytes(range(256)) + b"\n\n"
 FOUND = b"finding\t12\tFB-13\ntotal\t1\n"
 
@@ -61,10 +62,10 @@ class Place:
         (self.root / "canned").write_bytes(FOUND)
 
     # Runs the command.
-    def check(self, *words, sheet=b"", command=None, folder=None, **more):
+    def check(self, *words, sheet=b"", command=None, folder=None, stdout=subprocess.PIPE, **more):
         environment = {"PATH": str(self.bin), "TMPDIR": str(self.temporary)}
         done = subprocess.run([command or self.root / "check", *words], cwd=folder or self.root, env=environment,
-                              stdout=subprocess.PIPE, stderr=subprocess.PIPE, timeout=60, **(more or {"input": sheet}))
+                              stdout=stdout, stderr=subprocess.PIPE, timeout=60, **(more or {"input": sheet}))
         return Ended(done.returncode, done.stdout, done.stderr.decode())
 
     # The bytes that the program has read.
@@ -121,6 +122,26 @@ def refused(ended):
     return ended.err
 
 
+# One Ctrl-D ends a sheet from the keyboard, though the program reads once more past the end.
+def test_keyboard(place):
+    (place.root / "program").write_text(PROGRAM.replace('cat >"$here/seen"', 'cat >"$here/seen"; cat >>"$here/seen"'))
+    keys, keyboard = pty.openpty()
+    os.write(keys, b"sheet\t1\nitem\ta\n\x04")
+    ended = place.check(stdin=keyboard)
+    os.close(keyboard)
+    os.close(keys)
+    assert ended[:2] == (1, FOUND) and "Ctrl-D ends it" in ended.err, ended
+    assert place.seen() == b"sheet\t1\nitem\ta\n", place.seen()
+
+
+# Where nobody reads what is printed, it ends with 3 and a message, whatever was to be printed.
+def test_unread(place):
+    for words in ((), ("--help",), ("--explain", "16")):
+        with harness.unread() as pipe:
+            ended = place.check(*words, stdout=pipe)
+        assert ended.status == 3 and "could not be written" in ended.err, (words, ended)
+
+
 # Each misuse has its message.
 def test_misuse(place):
     for words, said in ((("a", "b"), "one sheet at a time"), (("-x",), "no option '-x'"), (("-",), "no option '-'"),
@@ -145,7 +166,7 @@ def test_texts(place):
 
 # Runs each test in a place of its own; nothing temporary may be left. 0 if all pass.
 def main():
-    tests = [test_status, test_bytes, test_building, test_not_built, test_misuse, test_texts]
+    tests = [test_status, test_bytes, test_building, test_not_built, test_keyboard, test_unread, test_misuse, test_texts]
     for test in tests:
         with tempfile.TemporaryDirectory() as folder:
             place = Place(Path(folder))

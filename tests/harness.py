@@ -98,6 +98,17 @@ def replaced(place, name, other):
         put(name, sound)
 
 
+# The end of a pipe to write to, of which nobody reads the other end.
+@contextmanager
+def unread():
+    reading, writing = os.pipe()
+    os.close(reading)
+    try:
+        yield writing
+    finally:
+        os.close(writing)
+
+
 # Links a program.
 def link(objects, result):
     subprocess.run([COMPILER[0], *(str(BUILD / name) for name in objects), "-o", str(BUILD / result)], check=True)

@@ -199,6 +199,8 @@ def test_output(place):
             assert "could not be written" in refused(place.run(*words, stdout=full)), words
         closed = place.run(*words, stdout=None, preexec_fn=lambda: os.close(1))
         assert "could not be written" in refused(closed), words
+        with harness.unread() as pipe:
+            assert "could not be written" in refused(place.run(*words, stdout=pipe)), words
 
 
 # The help names the verb, what it takes, and each exit status; it needs no program.
