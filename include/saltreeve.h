@@ -125,7 +125,17 @@
 /* The term of item 0 in a query; that of item a is larger by a. */
 #define SALTREEVE_QUERY_ITEM 4096
 
-/* Room in bytes that suffices for the text of any sheet. */
+/*
+ * The most bytes that a sheet may have. A longer one is handed over whole, and is
+ * refused by 9. Cut to so many bytes it could pass, though its end was never read.
+ */
+#define SALTREEVE_SHEET 32768
+
+/*
+ * Room in bytes that suffices for the text of any sheet: worked out in docs/HOST.md,
+ * and tested with a sheet that needs all of it. Proved is that no text has more than
+ * 18,700.
+ */
 #define SALTREEVE_TEXT 12814
 
 /* Room in bytes that suffices for the text of saltreeve_why, whatever is asked. */
