@@ -2,14 +2,15 @@
 
     python3 bench/engines/prolog.py < SHEET > PROGRAM
 
-It says the same as the logic program of asp.py: what follows is worked out by tabling and kept as facts about articles,
-each part of an expression is a tabled predicate, and the findings are printed, one a line: the number of the rule's
-line and the items.
+It says the same as the logic program of asp.py, by clauses.py: what follows is worked out by tabling and kept as facts
+about articles, each part of an expression is a tabled predicate, and the findings are printed, one a line: the number of
+the rule's line and the items.
 """
 
 import sys
 
 from accepted import read
+from clauses import Program
 
 CLOSURE = """
 :- use_module(library(aggregate)).
@@ -41,112 +42,52 @@ main :- close, forall(f(F), ( atomic_list_concat(F, ' ', L), writeln(L) )).
 """
 
 
-class Program:
-    """A program that is written line by line."""
+class Prolog(Program):
+    """The program for SWI-Prolog."""
 
-    # Nothing yet.
-    def __init__(self, roles):
-        self.lines = [CLOSURE.replace("@ROLES@", str(roles - 1))]
-        self.lines += [f":- dynamic l{role}/2." for role in range(roles)]
-        self.nodes = 0
+    NOT, NEVER, AT_MOST, EQUAL, UNEQUAL = "\\+ ", "fail", "=<", "==", "\\=="
 
-    # Adds a clause.
-    def add(self, line):
-        self.lines.append(line)
-
-    # A new predicate for what an expression holds of.
-    def holds(self, tree):
-        word, parts = tree[0], tree[1:]
-        inner = [self.holds(part) for part in parts if isinstance(part, tuple) and isinstance(part[0], str)]
-        name, self.nodes = f"h{self.nodes}", self.nodes + 1
-        head = f"{name}(X)"
+    # What an expression made of others holds of is tabled.
+    def announce(self, word, name):
         if word not in ("name", "top", "bot", "self", "one"):
             self.add(f":- table {name}/1.")
-        if word == "name":
-            self.add(f"{head} :- in(X,{parts[0]}).")
-        elif word == "top":
-            self.add(f"{head} :- art(X).")
-        elif word == "bot":
-            self.add(f"{head} :- fail.")
-        elif word == "not":
-            self.add(f"{head} :- art(X), \\+ {inner[0]}(X).")
-        elif word == "and":
-            self.add(f"{head} :- {inner[0]}(X), {inner[1]}(X).")
-        elif word == "or":
-            self.add(f"{head} :- {inner[0]}(X). {head} :- {inner[1]}(X).")
-        elif word == "some":
-            self.add(f"{head} :- art(X), once(( {link(parts[0])}, {inner[0]}(Y) )).")
-        elif word == "all":
-            self.add(f"{head} :- art(X), \\+ ( {link(parts[0])}, \\+ {inner[0]}(Y) ).")
-        elif word in ("atleast", "atmost"):
-            sign = ">=" if word == "atleast" else "=<"
-            self.add(f"{head} :- art(X), aggregate_all(count, ( {link(parts[1])}, {inner[0]}(Y) ), N), N {sign} {parts[0]}.")
-        elif word == "self":
-            self.add(f"{head} :- l{parts[0][0]}(X,X).")
-        else:
-            self.add(f"{head} :- art({parts[0]},X).")
-        return name
 
-    # A rule that is broken by items: the condition is about the article X.
-    def one(self, line, body):
-        self.add(f"f([{line},A]) :- {body}, art(A,X).")
+    # A path of several steps is tabled.
+    def announce_path(self, name):
+        self.add(f":- table {name}/2.")
+
+    # That the role with a number links one article to another.
+    def linked(self, number, first, second):
+        return f"l{number}({first},{second})"
+
+    # A finding of the rule in a line.
+    def found(self, line, *items):
+        return f"f([{','.join(map(str, (line, *items)))}])"
+
+    # That something of which `inner` holds is linked.
+    def some(self, link, inner):
+        return f"art(X), once(( {link}, {inner}(Y) ))"
+
+    # That all that is linked is such.
+    def add_all(self, name, link, inner):
+        self.add(f"{name}(X) :- art(X), \\+ ( {link}, \\+ {inner}(Y) ).")
+
+    # That so many, or so few, of which `inner` holds are linked.
+    def count(self, link, inner, sign, number):
+        return f"art(X), aggregate_all(count, ( {link}, {inner}(Y) ), N), N {sign} {number}"
 
     # A rule that is broken by pairs of items: the condition is about the articles X and Y.
     def two(self, line, body):
-        self.add(f"f([{line},A,B]) :- {body}, art(A,X), art(B,Y).")
-
-    # A rule about two named items.
-    def named(self, line, a, b, body):
-        self.add(f"f([{line},{a},{b}]) :- art({a},X), art({b},Y), {body}.")
-
-    # A path of roles from X to Y, one step at a time.
-    def path(self, line, roles):
-        self.add(f"p{line}_1(X,Y) :- {link(roles[0])}.")
-        for step, role in enumerate(roles[1:], 2):
-            self.add(f":- table p{line}_{step}/2.")
-            self.add(f"p{line}_{step}(X,Y) :- p{line}_{step - 1}(X,Z), {link(role, 'Z', 'Y')}.")
-        return f"p{line}_{len(roles)}(X,Y)"
-
-    # The findings of a rule.
-    def rule(self, line, word, parts):
-        if word == "sub":
-            C, D = (self.holds(part) for part in parts)
-            self.one(line, f"{C}(X), \\+ {D}(X)")
-        elif word == "in":
-            self.add(f"f([{line},{parts[1]}]) :- art({parts[1]},X), \\+ {self.holds(parts[0])}(X).")
-        elif word == "rsub":
-            self.two(line, f"{link(parts[0])}, \\+ {link(parts[1])}")
-        elif word == "dis":
-            self.two(line, f"{link(parts[0])}, {link(parts[1])}")
-        elif word == "chain":
-            self.two(line, f"{self.path(line, parts[:-1])}, \\+ {link(parts[-1])}")
-        elif word in ("ref", "irr"):
-            self.one(line, "art(X), " + ("\\+ " if word == "ref" else "") + f"l{parts[0][0]}(X,X)")
-        elif word in ("rel", "norel"):
-            self.named(line, *parts[1:], ("\\+ " if word == "rel" else "") + link(parts[0]))
-        else:
-            self.named(line, *parts, "X \\== Y" if word == "same" else "X == Y")
-
-
-# That a role links one article to another.
-def link(role, first="X", second="Y"):
-    number, turned = role
-    return f"l{number}({second},{first})" if turned else f"l{number}({first},{second})"
+        self.add(f"{self.found(line, 'A', 'B')} :- {body}, art(A,X), art(B,Y).")
 
 
 # The program of a sheet.
 def program_of(sheet):
-    program = Program(sheet.roles)
-    said = sheet.statements
+    program = Prolog(CLOSURE.replace("@ROLES@", str(sheet.roles - 1)))
+    program.lines += [f":- dynamic l{role}/2." for role in range(sheet.roles)]
     program.lines += [f"item({a})." for a in range(len(sheet.items))]
-    program.lines += [f"s({a},{b})." for a, b in said["same"]]
-    program.lines += [f"sub({A},{B})." for A, B in said["under"]]
-    program.lines += [f"rsub({R},{S},{int(turned != other)})." for (R, turned), (S, other) in said["runder"]]
-    program.lines += [f"stated({a},{A})." for a, A in said["in"]]
-    program.lines += [f"rel({R},{a},{b})." for (R, _), a, b in said["rel"]]
-    for line, word, parts in sheet.rules:
-        program.rule(line, word, parts)
-    return "\n".join(program.lines) + "\n"
+    program.state(sheet.statements)
+    return program.text(sheet.rules)
 
 
 # The findings in what the program prints.
