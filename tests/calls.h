@@ -8,14 +8,14 @@
 #include "commands.h"
 
 #include <signal.h>
-#include <string.h>
 #include <unistd.h>
 
 enum {
     GUARD_BYTES = 512,       /* kept before and after the entries lent */
     GUARD_BYTE = 0xA5,
     MOST_ENTRIES = 131072,   /* the longest list that can be lent */
-    PLACE_BYTES = 256
+    PLACE_BYTES = 256,
+    TEXT_TOO_LONG = -8
 };
 
 /* A list lent: its entries, of 1, 2, 4 or 8 bytes each, guard bytes around them, and what they should be after a call. */
@@ -111,6 +111,45 @@ static inline void lend_bytes(struct lent *lent)
     fill(lent);
 }
 
+/* A word of a store before a call, other for each number. */
+static inline uint64_t garbage(uint64_t number, uint64_t at)
+{
+    uint64_t word = (number << 20 | at) * 0x9E3779B97F4A7C15;
+    word = (word ^ word >> 32) * 0xD6E8FEB86659FD93;
+    return word ^ word >> 32;
+}
+
+/* Lends a store of so many words of garbage. */
+static inline void lend_garbage(struct lent *store, uint64_t number, size_t length)
+{
+    lend(store, sizeof(uint64_t), length, 0);
+    for (size_t i = 0; i < length; i++)
+        set_due(store, i, garbage(number, i));
+    fill(store);
+}
+
+/* Says which entries of a list are due, from its start. */
+static inline void set_all_due(struct lent *lent, const struct lent *due)
+{
+    if (lent->length < due->length)
+        stop("a list is too short for what is due");
+    memcpy(lent->due, due->due, due->length * due->width);
+}
+
+/* The result that is due where a text is to be written to a room: its length, or that it is too long. */
+static inline int64_t text_result(const struct lent *text, const struct lent *room)
+{
+    return text->length <= room->length ? (int64_t)text->length : TEXT_TOO_LONG;
+}
+
+/* Lends a room of so many bytes, and says that the text is due in it if it fits. */
+static inline void lend_room_for(struct lent *room, size_t length, const struct lent *text)
+{
+    lend(room, 1, length, GUARD);
+    if (text_result(text, room) >= 0)
+        set_all_due(room, text);
+}
+
 /* Whether the guard bytes are as they were. */
 static int guards_stand(const struct lent *lent)
 {
@@ -139,6 +178,27 @@ static void print_entries(const char *name, const struct lent *lent)
     }
     if (!guards_stand(lent))
         printf("a byte outside the %s was changed\n", name);
+}
+
+/* A list that was lent to a call, and its name. */
+struct named {
+    const char *name;
+    const struct lent *lent;
+};
+
+/* Ends the program if the result of a call, or an entry of the lists lent, is not what it should be. */
+static inline void compare_call(int64_t due, int64_t got, const struct named *lists, size_t count)
+{
+    int right = got == due;
+    for (size_t i = 0; i < count; i++)
+        right = right && as_due(lists[i].lent);
+    if (right)
+        return;
+    printf("%s", place_text);
+    printf("result: expected %" PRId64 ", got %" PRId64 "\n", due, got);
+    for (size_t i = 0; i < count; i++)
+        print_entries(lists[i].name, lists[i].lent);
+    exit(1);
 }
 
 /* Notes that the next call comes, with so many words or bytes of room. */
@@ -181,10 +241,19 @@ static int next_command(char word[NAME_BYTES], struct place *place)
     return 0;
 }
 
-/* Says how many calls there were. */
-static void say_done(const struct place *place)
+/* Carries out all commands, each by its word, takes back what is still lent, and says how many calls they were. */
+static void carry_out(struct place *place, void (*command)(const char *word), struct lent *const *lists, size_t count)
 {
+    char word[NAME_BYTES];
+    watch_signals();
+    while (next_command(word, place))
+        command(word);
+    for (size_t i = 0; i < count; i++)
+        take_back(lists[i]);
     printf("done %" PRIu64 "\n", place->calls);
 }
+
+/* How many entries a table has. */
+#define COUNT(table) (sizeof(table) / sizeof(table)[0])
 
 #endif

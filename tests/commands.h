@@ -10,6 +10,7 @@
 #include <stdint.h>
 #include <stdio.h>
 #include <stdlib.h>
+#include <string.h>
 
 enum {
     GUARD_WORDS = 64,  /* kept before and after the words lent */
@@ -77,6 +78,30 @@ static void do_part(struct place *place)
     place->part_calls = 0;
     printf("%s %" PRIu64 "\n", place->part, place->part_number);
     fflush(stdout);
+}
+
+/* What a driver does: with no word it reads commands, with --stack and --time it measures. It has no stacks where `stacks` is NULL. */
+struct driver {
+    const char *name;
+    void (*commands)(void);
+    void (*stacks)(void);
+    void (*times)(void);
+};
+
+/* Does what the words of the command line ask for; the exit status. */
+static inline int run_driver(const struct driver *driver, int argc, char **argv)
+{
+    if (argc == 1)
+        driver->commands();
+    else if (argc == 2 && strcmp(argv[1], "--time") == 0)
+        driver->times();
+    else if (argc == 2 && strcmp(argv[1], "--stack") == 0 && driver->stacks != NULL)
+        driver->stacks();
+    else {
+        fprintf(stderr, "usage: %s [--time%s]\n", driver->name, driver->stacks != NULL ? " | --stack" : "");
+        return 2;
+    }
+    return 0;
 }
 
 #endif

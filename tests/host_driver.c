@@ -25,73 +25,44 @@
 
 #include "measured_sheet.h"
 
-enum { TEXT_TOO_LONG = -8 };
-
 /* What is lent, what is due, and where the test is. */
-struct run {
+static struct {
     struct lent sheet, text, room;
     struct place place;
-};
-
-/* The result that is due. */
-static int64_t result_due(const struct run *run)
-{
-    return run->text.length <= run->room.length ? (int64_t)run->text.length : TEXT_TOO_LONG;
-}
-
-/* Lends a room for a call, and says which bytes are to be written to it. */
-static void lend_room(struct run *run, size_t length)
-{
-    lend(&run->room, 1, length, GUARD);
-    if (result_due(run) >= 0)
-        memcpy(run->room.due, run->text.due, run->text.length);
-}
-
-/* Ends the program if the result or a byte is not what it should be. */
-static void compare_call(const struct run *run, int64_t got)
-{
-    if (got == result_due(run) && as_due(&run->sheet) && as_due(&run->room))
-        return;
-    printf("%s", place_text);
-    printf("result: expected %" PRId64 ", got %" PRId64 "\n", result_due(run), got);
-    print_entries("sheet", &run->sheet);
-    print_entries("room", &run->room);
-    exit(1);
-}
+} run;
 
 /* Makes calls with rooms of some lengths. */
-static void do_call(struct run *run)
+static void do_call(void)
 {
+    const struct named lists[] = {{"sheet", &run.sheet}, {"room", &run.room}};
     for (uint64_t left = read_number(); left > 0; left--) {
-        lend_room(run, read_number());
-        next_call(&run->place, run->room.length);
+        lend_room_for(&run.room, read_number(), &run.text);
+        next_call(&run.place, run.room.length);
         alarm(CALL_SECONDS);
-        int64_t got = saltreeve_check(run->sheet.entries, run->sheet.length, run->room.entries, run->room.length);
+        int64_t got = saltreeve_check(run.sheet.entries, run.sheet.length, run.room.entries, run.room.length);
         alarm(0);
-        compare_call(run, got);
+        compare_call(text_result(&run.text, &run.room), got, lists, COUNT(lists));
     }
 }
 
-/* Carries out all commands and says how many calls they were. */
+/* Carries out a command. */
+static void do_command(const char *word)
+{
+    if (strcmp(word, "sheet") == 0)
+        lend_bytes(&run.sheet);
+    else if (strcmp(word, "text") == 0)
+        lend_bytes(&run.text);
+    else if (strcmp(word, "call") == 0)
+        do_call();
+    else
+        stop("unknown command");
+}
+
+/* Carries out all commands. */
 static void run_commands(void)
 {
-    static struct run run;
-    char word[NAME_BYTES];
-    watch_signals();
-    while (next_command(word, &run.place)) {
-        if (strcmp(word, "sheet") == 0)
-            lend_bytes(&run.sheet);
-        else if (strcmp(word, "text") == 0)
-            lend_bytes(&run.text);
-        else if (strcmp(word, "call") == 0)
-            do_call(&run);
-        else
-            stop("unknown command");
-    }
-    take_back(&run.sheet);
-    take_back(&run.text);
-    take_back(&run.room);
-    say_done(&run.place);
+    struct lent *const lists[] = {&run.sheet, &run.text, &run.room};
+    carry_out(&run.place, do_command, lists, COUNT(lists));
 }
 
 /* --- Measuring: sheets at the limits, and the rules that go deepest. --- */
@@ -126,7 +97,7 @@ static void catalogue(void)
 static void empty_lines(void)
 {
     add("sheet\t1\n");
-    while (measured_length < SHEET_BYTES)
+    while (measured_length < SALTREEVE_SHEET)
         add("\n");
 }
 
@@ -321,19 +292,22 @@ static void print_times(const struct measured *sheets, size_t count)
     }
 }
 
+/* Prints how much stack each sheet takes. */
+static void run_stacks(void)
+{
+    print_stacks(SHEETS, COUNT(SHEETS));
+    print_stacks(DEEPEST, COUNT(DEEPEST));
+}
+
+/* Prints how long each sheet takes. */
+static void run_times(void)
+{
+    print_times(SHEETS, COUNT(SHEETS));
+}
+
 /* Runs the commands or a measurement. */
 int main(int argc, char **argv)
 {
-    if (argc == 2 && strcmp(argv[1], "--stack") == 0) {
-        print_stacks(SHEETS, COUNT(SHEETS));
-        print_stacks(DEEPEST, COUNT(DEEPEST));
-    } else if (argc == 2 && strcmp(argv[1], "--time") == 0)
-        print_times(SHEETS, COUNT(SHEETS));
-    else if (argc == 1)
-        run_commands();
-    else {
-        fprintf(stderr, "usage: host_driver [--stack | --time]\n");
-        return 2;
-    }
-    return 0;
+    const struct driver driver = {"host_driver", run_commands, run_stacks, run_times};
+    return run_driver(&driver, argc, argv);
 }

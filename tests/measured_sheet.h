@@ -10,13 +10,11 @@
 
 #include <stdarg.h>
 
-enum { SHEET_BYTES = 32768 };
-
 /* The names of roles, and of the items of a sheet that has many lines. */
 static const char LETTERS[] = "ABCDEFGHIJKLMNOPQRSTUVWXYZabcdefghijklmnopqrstuvwxyz0123456789._/-";
 
 /* The sheet that is measured. */
-static char measured_sheet[SHEET_BYTES + 1];
+static char measured_sheet[SALTREEVE_SHEET + 1];
 static size_t measured_length;
 
 /* Adds to the sheet, in the manner of printf. */
@@ -64,8 +62,5 @@ static void add_names(void)
     add_lettered(SALTREEVE_ROLES, "role\t%c\n");
     add_numbered(SALTREEVE_ITEMS, "item\ti%d\n");
 }
-
-/* How many entries a table has. */
-#define COUNT(table) (sizeof(table) / sizeof(table)[0])
 
 #endif

@@ -29,88 +29,76 @@
 #include "saltreeve.h"
 
 /* What is lent, what is due, and where the test is. */
-struct run {
+static struct {
     struct lent rule, room;
     uint64_t items, concepts, roles;
     uint16_t query[SALTREEVE_QUERY_WORDS];  /* the words due */
     size_t query_words;
     int64_t result;
     struct place place;
-};
+} run;
 
 /* Lends a room for a call, and says which words are to be written to it. */
-static void lend_room(struct run *run, size_t length)
+static void lend_room(size_t length)
 {
-    lend(&run->room, sizeof(uint16_t), length, GUARD);
-    for (size_t i = 0; run->result >= 0 && i < run->query_words && i < length; i++)
-        set_due(&run->room, i, run->query[i]);
-}
-
-/* Ends the program if the result or a word is not what it should be. */
-static void compare_call(const struct run *run, int64_t got)
-{
-    if (got == run->result && as_due(&run->rule) && as_due(&run->room))
-        return;
-    printf("%s", place_text);
-    printf("result: expected %" PRId64 ", got %" PRId64 "\n", run->result, got);
-    print_entries("rule", &run->rule);
-    print_entries("room", &run->room);
-    exit(1);
+    lend(&run.room, sizeof(uint16_t), length, GUARD);
+    for (size_t i = 0; run.result >= 0 && i < run.query_words && i < length; i++)
+        set_due(&run.room, i, run.query[i]);
 }
 
 /* Makes one call and compares. */
-static void call_once(struct run *run)
+static void call_once(void)
 {
-    next_call(&run->place, run->room.length);
+    const struct named lists[] = {{"rule", &run.rule}, {"room", &run.room}};
+    next_call(&run.place, run.room.length);
     alarm(CALL_SECONDS);
-    int64_t got = saltreeve_compile(run->items, run->concepts, run->roles, run->rule.entries, run->rule.length,
-                                    run->room.entries, run->room.length);
+    int64_t got = saltreeve_compile(run.items, run.concepts, run.roles, run.rule.entries, run.rule.length,
+                                    run.room.entries, run.room.length);
     alarm(0);
-    compare_call(run, got);
+    compare_call(run.result, got, lists, COUNT(lists));
 }
 
 /* Reads the words of a query. */
-static void read_query(struct run *run)
+static void read_query(void)
 {
-    run->query_words = read_number();
-    if (run->query_words > SALTREEVE_QUERY_WORDS)
+    run.query_words = read_number();
+    if (run.query_words > SALTREEVE_QUERY_WORDS)
         stop("a query is too long");
-    for (size_t i = 0; i < run->query_words; i++)
-        run->query[i] = (uint16_t)read_number();
+    for (size_t i = 0; i < run.query_words; i++)
+        run.query[i] = (uint16_t)read_number();
 }
 
 /* Makes calls with rooms of some lengths. */
-static void do_call(struct run *run)
+static void do_call(void)
 {
-    run->items = read_number();
-    run->concepts = read_number();
-    run->roles = read_number();
-    read_query(run);
+    run.items = read_number();
+    run.concepts = read_number();
+    run.roles = read_number();
+    read_query();
     for (uint64_t left = read_number(); left > 0; left--) {
         size_t length = read_number();
-        run->result = read_result();
-        lend_room(run, length);
-        call_once(run);
+        run.result = read_result();
+        lend_room(length);
+        call_once();
     }
 }
 
-/* Carries out all commands and says how many calls they were. */
+/* Carries out a command. */
+static void do_command(const char *word)
+{
+    if (strcmp(word, "rule") == 0)
+        lend_list(&run.rule);
+    else if (strcmp(word, "call") == 0)
+        do_call();
+    else
+        stop("unknown command");
+}
+
+/* Carries out all commands. */
 static void run_commands(void)
 {
-    static struct run run;
-    char word[NAME_BYTES];
-    watch_signals();
-    while (next_command(word, &run.place)) {
-        if (strcmp(word, "rule") == 0)
-            lend_list(&run.rule);
-        else if (strcmp(word, "call") == 0)
-            do_call(&run);
-        else
-            stop("unknown command");
-    }
-    take_back(&run.rule);
-    take_back(&run.room);
-    say_done(&run.place);
+    struct lent *const lists[] = {&run.rule, &run.room};
+    carry_out(&run.place, do_command, lists, COUNT(lists));
 }
 
 /* --- Measuring: the deepest rules, over 128 items, 32 concepts and 16 roles. --- */
@@ -190,7 +178,7 @@ static void require_due(const struct measured *measured)
 /* Prints how much stack each rule takes. */
 static void run_stacks(void)
 {
-    for (size_t i = 0; i < sizeof MEASURED / sizeof MEASURED[0]; i++) {
+    for (size_t i = 0; i < COUNT(MEASURED); i++) {
         build(&MEASURED[i]);
         size_t used = stack_used(compile_measured);
         require_due(&MEASURED[i]);
@@ -201,7 +189,7 @@ static void run_stacks(void)
 /* Prints how long each rule takes. */
 static void run_times(void)
 {
-    for (size_t i = 0; i < sizeof MEASURED / sizeof MEASURED[0]; i++) {
+    for (size_t i = 0; i < COUNT(MEASURED); i++) {
         build(&MEASURED[i]);
         double start = seconds();
         for (int call = 0; call < TIMED_CALLS; call++) {
@@ -215,15 +203,6 @@ static void run_times(void)
 /* Runs the commands or a measurement. */
 int main(int argc, char **argv)
 {
-    if (argc == 2 && strcmp(argv[1], "--stack") == 0)
-        run_stacks();
-    else if (argc == 2 && strcmp(argv[1], "--time") == 0)
-        run_times();
-    else if (argc == 1)
-        run_commands();
-    else {
-        fprintf(stderr, "usage: query_driver [--stack | --time]\n");
-        return 2;
-    }
-    return 0;
+    const struct driver driver = {"query_driver", run_commands, run_stacks, run_times};
+    return run_driver(&driver, argc, argv);
 }

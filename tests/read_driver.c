@@ -33,132 +33,78 @@
 
 #include <time.h>
 
-enum { TEXT_TOO_LONG = -8, AS_LEFT = 0 };
+enum { AS_LEFT = 0 };
 
 /* What is lent, what is due, and where the test is. */
-struct run {
+static struct {
     struct lent sheet, store, room;
     struct lent text, after;
     int touched;  /* whether the words of `after` are due */
     struct place place;
-};
-
-/* A word of a store before a call, other for each number. */
-static uint64_t garbage(uint64_t number, uint64_t at)
-{
-    uint64_t word = (number << 20 | at) * 0x9E3779B97F4A7C15;
-    word = (word ^ word >> 32) * 0xD6E8FEB86659FD93;
-    return word ^ word >> 32;
-}
-
-/* The result that is due. */
-static int64_t result_due(const struct run *run)
-{
-    return run->text.length <= run->room.length ? (int64_t)run->text.length : TEXT_TOO_LONG;
-}
-
-/* Says which entries of a list are due, from its start. */
-static void set_all_due(struct lent *lent, const struct lent *due)
-{
-    if (lent->length < due->length)
-        stop("a list is too short for what is due");
-    memcpy(lent->due, due->due, due->length * due->width);
-}
-
-/* Lends a store of so many words of garbage. */
-static void lend_garbage(struct lent *store, uint64_t number, size_t length)
-{
-    lend(store, sizeof(uint64_t), length, 0);
-    for (size_t i = 0; i < length; i++)
-        set_due(store, i, garbage(number, i));
-    fill(store);
-}
+} run;
 
 /* Lends all that a call asks for, and says what is due of it. */
-static void lend_call(struct run *run)
+static void lend_call(void)
 {
     uint64_t number = read_number(), length = read_number();
     if (number != AS_LEFT)
-        lend_garbage(&run->store, number, length);
-    if (run->store.length != length)
+        lend_garbage(&run.store, number, length);
+    if (run.store.length != length)
         stop("the store has another length");
-    lend(&run->room, 1, read_number(), GUARD);
-    if (result_due(run) >= 0)
-        set_all_due(&run->room, &run->text);
-    if (run->touched)
-        set_all_due(&run->store, &run->after);
-}
-
-/* Ends the program if the result or a word is not what it should be. */
-static void compare_call(const struct run *run, int64_t got)
-{
-    if (got == result_due(run) && as_due(&run->sheet) && as_due(&run->store) && as_due(&run->room))
-        return;
-    printf("%s", place_text);
-    printf("result: expected %" PRId64 ", got %" PRId64 "\n", result_due(run), got);
-    print_entries("sheet", &run->sheet);
-    print_entries("store", &run->store);
-    print_entries("room", &run->room);
-    exit(1);
+    lend_room_for(&run.room, read_number(), &run.text);
+    if (run.touched)
+        set_all_due(&run.store, &run.after);
 }
 
 /* Makes a call. */
-static void do_call(struct run *run)
+static void do_call(void)
 {
-    lend_call(run);
-    next_call(&run->place, run->room.length);
+    const struct named lists[] = {{"sheet", &run.sheet}, {"store", &run.store}, {"room", &run.room}};
+    lend_call();
+    next_call(&run.place, run.room.length);
     alarm(CALL_SECONDS);
-    int64_t got = saltreeve_check_in(run->sheet.entries, run->sheet.length, run->store.entries, run->store.length,
-                                     run->room.entries, run->room.length);
+    int64_t got = saltreeve_check_in(run.sheet.entries, run.sheet.length, run.store.entries, run.store.length,
+                                     run.room.entries, run.room.length);
     alarm(0);
-    compare_call(run, got);
+    compare_call(text_result(&run.text, &run.room), got, lists, COUNT(lists));
 }
 
 /* Carries out a command. */
-static void do_command(struct run *run, const char *word)
+static void do_command(const char *word)
 {
     if (strcmp(word, "sheet") == 0)
-        lend_bytes(&run->sheet);
+        lend_bytes(&run.sheet);
     else if (strcmp(word, "text") == 0)
-        lend_bytes(&run->text);
+        lend_bytes(&run.text);
     else if (strcmp(word, "after") == 0) {
-        lend_list(&run->after);
-        run->touched = 1;
+        lend_list(&run.after);
+        run.touched = 1;
     } else if (strcmp(word, "untouched") == 0)
-        run->touched = 0;
+        run.touched = 0;
     else if (strcmp(word, "call") == 0)
-        do_call(run);
+        do_call();
     else
         stop("unknown command");
 }
 
-/* Carries out all commands and says how many calls they were. */
+/* Carries out all commands. */
 static void run_commands(void)
 {
-    static struct run run;
-    char word[NAME_BYTES];
-    watch_signals();
-    while (next_command(word, &run.place))
-        do_command(&run, word);
-    take_back(&run.sheet);
-    take_back(&run.store);
-    take_back(&run.room);
-    take_back(&run.text);
-    take_back(&run.after);
-    say_done(&run.place);
+    struct lent *const lists[] = {&run.sheet, &run.store, &run.room, &run.text, &run.after};
+    carry_out(&run.place, do_command, lists, COUNT(lists));
 }
 
 /* --- Times --- */
 
 enum {
-    SHEET_BYTES = 32768, RULES = 64, LETTERS = 64, DEPTH = 30, MOST_CALLS = 200
+    RULES = 64, LETTERS = 64, DEPTH = 30, MOST_CALLS = 200
 };
 
 static const double TIMED_SECONDS = 1;  /* after which a sheet is checked no more */
 
 /* A sheet that is timed. */
 struct timed {
-    char bytes[SHEET_BYTES + 1];
+    char bytes[SALTREEVE_SHEET + 1];
     size_t length;
 };
 
@@ -166,7 +112,7 @@ struct timed {
 static void add(struct timed *sheet, const char *text)
 {
     size_t length = strlen(text);
-    if (sheet->length + length > SHEET_BYTES)
+    if (sheet->length + length > SALTREEVE_SHEET)
         stop("a timed sheet is too long");
     memcpy(sheet->bytes + sheet->length, text, length);
     sheet->length += length;
@@ -220,7 +166,7 @@ static void begin_merged(struct timed *sheet, size_t linking)
 static void line_feeds(struct timed *sheet)
 {
     begin(sheet, 0, 0, 0);
-    while (sheet->length < SHEET_BYTES)
+    while (sheet->length < SALTREEVE_SHEET)
         add(sheet, "\n");
 }
 
@@ -314,7 +260,7 @@ static int ends_in(const char *line)
 /* Times the worst sheets; a text that is not due ends the program. */
 static void time_worst(struct timed *sheet)
 {
-    for (size_t i = 0; i < sizeof TIMINGS / sizeof TIMINGS[0]; i++) {
+    for (size_t i = 0; i < COUNT(TIMINGS); i++) {
         TIMINGS[i].build(sheet);
         time_sheet(TIMINGS[i].name, sheet);
         if (!ends_in(TIMINGS[i].due))

@@ -28,89 +28,74 @@
 #include "saltreeve.h"
 
 /* What is lent, what is due, and where the test is. */
-struct run {
+static struct {
     struct lent store, rule, out;
     uint64_t items, concepts, roles;
     int64_t result;
     struct lent found;  /* the pairs due */
     struct place place;
-};
+} run;
 
 /* Lends an out list for a call, and says which pairs are to be written to it. */
-static void lend_out(struct run *run, size_t length)
+static void lend_out(size_t length)
 {
-    lend(&run->out, sizeof(uint64_t), length, GUARD);
-    for (size_t i = 0; i < run->found.length && i < length / 2 * 2; i++)
-        set_due(&run->out, i, get_entry(run->found.due, run->found.width, i));
-}
-
-/* Ends the program if the result or a word is not what it should be. */
-static void compare_call(const struct run *run, int64_t got)
-{
-    if (got == run->result && as_due(&run->store) && as_due(&run->rule) && as_due(&run->out))
-        return;
-    printf("%s", place_text);
-    printf("result: expected %" PRId64 ", got %" PRId64 "\n", run->result, got);
-    print_entries("store", &run->store);
-    print_entries("rule", &run->rule);
-    print_entries("out list", &run->out);
-    exit(1);
+    lend(&run.out, sizeof(uint64_t), length, GUARD);
+    for (size_t i = 0; i < run.found.length && i < length / 2 * 2; i++)
+        set_due(&run.out, i, get_entry(run.found.due, run.found.width, i));
 }
 
 /* Makes one call and compares. */
-static void call_once(struct run *run)
+static void call_once(void)
 {
-    next_call(&run->place, run->out.length);
+    const struct named lists[] = {{"store", &run.store}, {"rule", &run.rule}, {"out list", &run.out}};
+    next_call(&run.place, run.out.length);
     alarm(CALL_SECONDS);
-    int64_t got = saltreeve_findings(run->store.entries, run->store.length, run->items, run->concepts, run->roles,
-                                     run->rule.entries, run->rule.length, run->out.entries, run->out.length);
+    int64_t got = saltreeve_findings(run.store.entries, run.store.length, run.items, run.concepts, run.roles,
+                                     run.rule.entries, run.rule.length, run.out.entries, run.out.length);
     alarm(0);
-    compare_call(run, got);
+    compare_call(run.result, got, lists, COUNT(lists));
 }
 
 /* Reads the pairs that are due. */
-static void read_findings(struct run *run)
+static void read_findings(void)
 {
-    lend(&run->found, sizeof(uint64_t), run->result > 0 ? 2 * (size_t)run->result : 0, 0);
-    for (size_t i = 0; i < run->found.length; i++)
-        set_due(&run->found, i, read_number());
+    lend(&run.found, sizeof(uint64_t), run.result > 0 ? 2 * (size_t)run.result : 0, 0);
+    for (size_t i = 0; i < run.found.length; i++)
+        set_due(&run.found, i, read_number());
 }
 
 /* Makes calls with out lists of some lengths. */
-static void do_call(struct run *run)
+static void do_call(void)
 {
-    run->items = read_number();
-    run->concepts = read_number();
-    run->roles = read_number();
-    run->result = read_result();
-    read_findings(run);
+    run.items = read_number();
+    run.concepts = read_number();
+    run.roles = read_number();
+    run.result = read_result();
+    read_findings();
     for (uint64_t left = read_number(); left > 0; left--) {
-        lend_out(run, read_number());
-        call_once(run);
+        lend_out(read_number());
+        call_once();
     }
 }
 
-/* Carries out all commands and says how many calls they were. */
+/* Carries out a command. */
+static void do_command(const char *word)
+{
+    if (strcmp(word, "store") == 0)
+        lend_list(&run.store);
+    else if (strcmp(word, "rule") == 0)
+        lend_list(&run.rule);
+    else if (strcmp(word, "call") == 0)
+        do_call();
+    else
+        stop("unknown command");
+}
+
+/* Carries out all commands. */
 static void run_commands(void)
 {
-    static struct run run;
-    char word[NAME_BYTES];
-    watch_signals();
-    while (next_command(word, &run.place)) {
-        if (strcmp(word, "store") == 0)
-            lend_list(&run.store);
-        else if (strcmp(word, "rule") == 0)
-            lend_list(&run.rule);
-        else if (strcmp(word, "call") == 0)
-            do_call(&run);
-        else
-            stop("unknown command");
-    }
-    take_back(&run.store);
-    take_back(&run.rule);
-    take_back(&run.out);
-    take_back(&run.found);
-    say_done(&run.place);
+    struct lent *const lists[] = {&run.store, &run.rule, &run.out, &run.found};
+    carry_out(&run.place, do_command, lists, COUNT(lists));
 }
 
 /* --- Measuring: always 128 items, 32 concepts and 16 roles. --- */
@@ -368,18 +353,21 @@ static void measure_all(void (*print)(void))
             measure_rule(&TIMINGS[i], merged, print);
 }
 
+/* Prints how much stack each rule takes. */
+static void run_stacks(void)
+{
+    measure_all(print_stack);
+}
+
+/* Prints how long each rule takes. */
+static void run_times(void)
+{
+    measure_all(print_time);
+}
+
 /* Runs the commands or a measurement. */
 int main(int argc, char **argv)
 {
-    if (argc == 2 && strcmp(argv[1], "--time") == 0)
-        measure_all(print_time);
-    else if (argc == 2 && strcmp(argv[1], "--stack") == 0)
-        measure_all(print_stack);
-    else if (argc == 1)
-        run_commands();
-    else {
-        fprintf(stderr, "usage: rule_driver [--time | --stack]\n");
-        return 2;
-    }
-    return 0;
+    const struct driver driver = {"rule_driver", run_commands, run_stacks, run_times};
+    return run_driver(&driver, argc, argv);
 }

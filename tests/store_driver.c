@@ -25,9 +25,6 @@
 #include "commands.h"
 #include "saltreeve.h"
 
-#include <stdio.h>
-#include <stdlib.h>
-#include <string.h>
 #include <time.h>
 #include <unistd.h>
 
@@ -420,13 +417,6 @@ static void run_times(void)
 /* Runs the commands or the timing. */
 int main(int argc, char **argv)
 {
-    if (argc == 2 && strcmp(argv[1], "--time") == 0)
-        run_times();
-    else if (argc == 1)
-        run_commands();
-    else {
-        fprintf(stderr, "usage: store_driver [--time]\n");
-        return 2;
-    }
-    return 0;
+    const struct driver driver = {"store_driver", run_commands, NULL, run_times};
+    return run_driver(&driver, argc, argv);
 }

@@ -48,59 +48,47 @@ struct question {
 };
 
 /* What is lent, what is due, and where the test is. */
-struct run {
+static struct {
     struct lent sheet, line, store, after, out;
     size_t store_length;
     int touched;  /* whether the words of `after` are due */
     struct place place;
-};
-
-/* A word of a store before a call, other for each number. */
-static uint64_t garbage(uint64_t number, uint64_t at)
-{
-    uint64_t word = (number << 20 | at) * 0x9E3779B97F4A7C15;
-    word = (word ^ word >> 32) * 0xD6E8FEB86659FD93;
-    return word ^ word >> 32;
-}
+} run;
 
 /* Lends a store of garbage; now and then it stays as the call before left it. */
-static void lend_store(struct run *run)
+static void lend_store(void)
 {
-    if (run->place.calls % LEFT_EVERY != 0 || run->store.length != run->store_length) {
-        lend(&run->store, sizeof(uint64_t), run->store_length, 0);
-        for (size_t i = 0; i < run->store_length; i++)
-            set_due(&run->store, i, garbage(run->place.calls, i));
-        fill(&run->store);
-    }
-    if (run->touched && run->after.length != run->store_length)
+    if (run.place.calls % LEFT_EVERY != 0 || run.store.length != run.store_length)
+        lend_garbage(&run.store, run.place.calls, run.store_length);
+    if (run.touched && run.after.length != run.store_length)
         stop("the store has another length");
-    if (run->touched)
-        memcpy(run->store.due, run->after.due, run->store_length * sizeof(uint64_t));
+    if (run.touched)
+        memcpy(run.store.due, run.after.due, run.store_length * sizeof(uint64_t));
 }
 
 /* Makes a call. */
-static int64_t make_call(struct run *run, const struct question *asked)
+static int64_t make_call(const struct question *asked)
 {
     const uint64_t *n = asked->numbers;
     if (asked->sort == TEXT)
-        return saltreeve_why(run->sheet.entries, run->sheet.length, run->line.entries, run->line.length,
-                             run->out.entries, run->out.length);
+        return saltreeve_why(run.sheet.entries, run.sheet.length, run.line.entries, run.line.length,
+                             run.out.entries, run.out.length);
     if (asked->sort == FINDING)
-        return saltreeve_explain_finding(run->sheet.entries, run->sheet.length, run->store.entries, run->store.length,
-                                         n[0], n[1], run->out.entries, run->out.length);
-    return saltreeve_explain(run->sheet.entries, run->sheet.length, run->store.entries, run->store.length,
-                             n[0], n[1], n[2], n[3], run->out.entries, run->out.length);
+        return saltreeve_explain_finding(run.sheet.entries, run.sheet.length, run.store.entries, run.store.length,
+                                         n[0], n[1], run.out.entries, run.out.length);
+    return saltreeve_explain(run.sheet.entries, run.sheet.length, run.store.entries, run.store.length,
+                             n[0], n[1], n[2], n[3], run.out.entries, run.out.length);
 }
 
 /* Ends the program if something that is lent is not what it should be; `other` is the store, or the question. */
-static void compare_lent(const struct run *run, const struct lent *other)
+static void compare_lent(const struct lent *other)
 {
-    if (as_due(&run->sheet) && as_due(other) && guards_stand(&run->out))
+    if (as_due(&run.sheet) && as_due(other) && guards_stand(&run.out))
         return;
     printf("%s", place_text);
-    print_entries("sheet", &run->sheet);
-    print_entries(other == &run->store ? "store" : "question", other);
-    if (!guards_stand(&run->out))
+    print_entries("sheet", &run.sheet);
+    print_entries(other == &run.store ? "store" : "question", other);
+    if (!guards_stand(&run.out))
         printf("a byte outside the list or room was changed\n");
     exit(1);
 }
@@ -126,93 +114,84 @@ static void print_answer(const struct lent *out, int64_t result)
 }
 
 /* Asks a question with so many entries; gives the result. */
-static int64_t ask_with(struct run *run, const struct question *asked, size_t entries)
+static int64_t ask_with(const struct question *asked, size_t entries)
 {
     int is_text = asked->sort == TEXT;
-    next_call(&run->place, entries);
+    next_call(&run.place, entries);
     if (!is_text)
-        lend_store(run);
-    lend(&run->out, is_text ? 1 : sizeof(uint32_t), entries, is_text ? GUARD_BYTE : LIST_FILL);
+        lend_store();
+    lend(&run.out, is_text ? 1 : sizeof(uint32_t), entries, is_text ? GUARD_BYTE : LIST_FILL);
     alarm(CALL_SECONDS);
-    int64_t result = make_call(run, asked);
+    int64_t result = make_call(asked);
     alarm(0);
-    compare_lent(run, is_text ? &run->line : &run->store);
-    print_answer(&run->out, result);
+    compare_lent(is_text ? &run.line : &run.store);
+    print_answer(&run.out, result);
     return result;
 }
 
 /* Asks a question with an ample list or room, and then with those around the length of the answer. */
-static void ask(struct run *run, const struct question *asked, size_t ample)
+static void ask(const struct question *asked, size_t ample)
 {
-    int64_t result = ask_with(run, asked, ample);
+    int64_t result = ask_with(asked, ample);
     size_t length = result < 0 ? 0 : (size_t)(asked->sort == FINDING ? result % RIGHT_CONCEPT : result);
     if (length > ample)
         length = ample;
     size_t tried[] = {0, length / 2, length > 0 ? length - 1 : 0, length, length + 1};
     for (size_t i = 0; i < COUNT(tried); i++)
         if (i == 0 || tried[i] > tried[i - 1])
-            ask_with(run, asked, tried[i]);
+            ask_with(asked, tried[i]);
 }
 
 /* Reads a question by number and asks it. */
-static void do_numbers(struct run *run, enum sort sort)
+static void do_numbers(enum sort sort)
 {
     struct question asked = {sort, {0}};
     size_t ample = read_number();
     for (int i = 0; i < (sort == CELL ? 4 : 2); i++)
         asked.numbers[i] = read_number();
-    ask(run, &asked, ample);
+    ask(&asked, ample);
 }
 
 /* Reads a question in a line and asks it. */
-static void do_text(struct run *run)
+static void do_text(void)
 {
     struct question asked = {TEXT, {0}};
     size_t ample = read_number();
-    lend_bytes(&run->line);
-    ask(run, &asked, ample);
+    lend_bytes(&run.line);
+    ask(&asked, ample);
 }
 
 /* Says which store is lent from now on. */
-static void do_store(struct run *run)
+static void do_store(void)
 {
-    run->store_length = read_number();
-    run->touched = read_number() == 1;
+    run.store_length = read_number();
+    run.touched = read_number() == 1;
 }
 
 /* Carries out a command. */
-static void do_command(struct run *run, const char *word)
+static void do_command(const char *word)
 {
     if (strcmp(word, "sheet") == 0)
-        lend_bytes(&run->sheet);
+        lend_bytes(&run.sheet);
     else if (strcmp(word, "after") == 0)
-        lend_list(&run->after);
+        lend_list(&run.after);
     else if (strcmp(word, "store") == 0)
-        do_store(run);
+        do_store();
     else if (strcmp(word, "cell") == 0)
-        do_numbers(run, CELL);
+        do_numbers(CELL);
     else if (strcmp(word, "finding") == 0)
-        do_numbers(run, FINDING);
+        do_numbers(FINDING);
     else if (strcmp(word, "text") == 0)
-        do_text(run);
+        do_text();
     else
         stop("unknown command");
 }
 
-/* Carries out all commands and says how many calls they were. */
+/* Carries out all commands. */
 static void run_commands(void)
 {
-    static struct run run;
-    char word[NAME_BYTES];
-    watch_signals();
-    while (next_command(word, &run.place))
-        do_command(&run, word);
-    take_back(&run.sheet);
-    take_back(&run.line);
-    take_back(&run.store);
-    take_back(&run.after);
-    take_back(&run.out);
-    say_done(&run.place);
+    struct lent *const lists[] = {&run.sheet, &run.line, &run.store, &run.after, &run.out};
+    carry_out(&run.place, do_command, lists, COUNT(lists));
 }
 
 /* --- Measuring: the slowest sheets that we know, and catalogues. --- */
@@ -238,7 +217,7 @@ static int64_t measured_result;
 /* Fills the sheet with links between items, but for so many bytes. */
 static void fill_links(size_t left)
 {
-    for (int i = 0; measured_length + left + 16 < SHEET_BYTES; i++)
+    for (int i = 0; measured_length + left + 16 < SALTREEVE_SHEET; i++)
         add("rel\t%c\ti%d\ti%d\n", LETTERS[i % SALTREEVE_ROLES], i % SALTREEVE_ITEMS, i / 7 % SALTREEVE_ITEMS);
 }
 
@@ -509,15 +488,6 @@ static void print_times(void)
 /* Runs the commands or a measurement. */
 int main(int argc, char **argv)
 {
-    if (argc == 2 && strcmp(argv[1], "--stack") == 0)
-        print_stacks();
-    else if (argc == 2 && strcmp(argv[1], "--time") == 0)
-        print_times();
-    else if (argc == 1)
-        run_commands();
-    else {
-        fprintf(stderr, "usage: why_driver [--stack | --time]\n");
-        return 2;
-    }
-    return 0;
+    const struct driver driver = {"why_driver", run_commands, print_stacks, print_times};
+    return run_driver(&driver, argc, argv);
 }
