@@ -14,6 +14,7 @@ root=$(dirname "$(readlink -f "${BASH_SOURCE[0]}")")
 program=$root/target/bin/$crate
 status=3
 trap 'exit "$status"' EXIT
+trap '' PIPE
 
 usage() {
     cat <<'END'
@@ -144,6 +145,7 @@ COMMAND_FAULTS = (
     ("a text that is not written is passed over",
      '"$text" 2>/dev/null || fail "the text could not be written to standard output"',
      '"$text" 2>/dev/null || true'),
+    ("an output that nobody reads ends it by a signal", "trap '' PIPE\n", ""),
     ("the last line feed is lost", "printf '%s\\n' \"$text\"", "printf '%s' \"$text\""),
     ("messages go to standard output", "printf 'saltreeve: %s\\n' \"$*\" >&2", "printf 'saltreeve: %s\\n' \"$*\""),
     ("what rt says goes to standard output", "'unchanged since|^rt: ok' >&2", "'unchanged since|^rt: ok'"),
