@@ -131,11 +131,7 @@
  */
 #define SALTREEVE_SHEET 32768
 
-/*
- * Room in bytes that suffices for the text of any sheet: worked out in docs/HOST.md,
- * and tested with a sheet that needs all of it. Proved is that no text has more than
- * 18,700.
- */
+/* Room in bytes that suffices for the text of any sheet. Some sheets need all of it. */
 #define SALTREEVE_TEXT 12814
 
 /* Room in bytes that suffices for the text of saltreeve_why, whatever is asked. */

@@ -13,9 +13,9 @@ use Rattle.text.specs.Text.{Wrote}
 abbrev pub lineOf : Said → ℕ → ℕ
 lineOf x k = getD (map (λ (r : SheetRule). r .line) (x .rules)) k 0
 
--- no text has more bytes: 200 lines of findings and the last one, or the line of a refused sheet
+-- no text has more bytes: 200 lines of findings, of 64 bytes at the most, and the last one; or the line of a refused sheet
 abbrev pub textLimit : ℕ
-textLimit = 18700
+textLimit = 12814
 
 -- the text that is printed for the sheet was written at the start of the room, as far as it reaches, and r is its length
 pub record Pages (sheet room exit : List ℕ) (r : ℕ) : Type 0 where

@@ -7,7 +7,7 @@ pub struct Report {}
 
 impl Report {
     // Bytes that suffice for the text of any sheet.
-    pub const BYTES: usize = 18700;
+    pub const BYTES: usize = 12814;
 }
 
 // How far the findings are printed: the place in the room, how many more may be printed, and how many there are so far in all.

@@ -6,6 +6,7 @@ pub mod Sheets
 pub mod Settled
 pub mod Pass
 pub mod Few
+pub mod Slight
 pub mod Count
 pub mod Unique
 pub mod Demand3

@@ -46,11 +46,11 @@ module _ {sheet t : List ℕ} {e : Ended} (w : Filled sheet t e) where
     pub page-judges : Judges sheet (e .kept .table) t
     page-judges = opens-judges (w .opens) z (w .places)
 
-    pub page-accepted : {room mid exit : List ℕ} {b : Tally} {r : ℕ} → Words 64 t → JudgedAll sheet (e .kept .table) t room mid b → Wrote mid (b .at) (totalText (b .total)) exit r → r ≤ b .at + 27 → Pages sheet room exit r
-    page-accepted u j h l =
+    pub page-accepted : {room mid exit : List ℕ} {b : Tally} {r : ℕ} → Words 64 t → JudgedAll sheet (e .kept .table) t room mid b → Wrote mid (b .at) (totalText (b .total)) exit r → Pages sheet room exit r
+    page-accepted u j h =
         let o = opens-outcome (w .opens) z in
         let a = printed-all o u (opens-held (w .opens) z) (j .printed (w .opens .said) o (w .opens .names)) h in
-        record { text = a .0; prints = a .1; wrote = a .2; short = omega (arith, j .near) }
+        record { text = a .0; prints = a .1; wrote = a .2; short = omega (arith, a .2 .next, a .3) }
 
 -- ---- in a lent store
 

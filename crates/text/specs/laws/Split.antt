@@ -96,6 +96,20 @@ module _ (t : ℕ) (s : List ℕ) (i : ℕ) where
   unfolding split
   count-out h = rw (drop-of-length-le s h)
 
+-- one more than there are bytes, at the most
+split-few : (t : ℕ) (s : List ℕ) → length (split t s) ≤ length s + 1
+unfolding split
+split-few t [] = omega arith
+split-few t (b ∷ s) = at (eqb b t) (split-few t s)
+  where
+    at : (e : Bool) → length (split t s) ≤ length s + 1 → length (cond e ([] ∷ split t s) (onto b (split t s))) ≤ suc (length s) + 1
+    at true h = omega arith
+    at false h = omega (arith, onto-length t s 0 b s)
+
+pub parts-few : (t : ℕ) (s : List ℕ) (i : ℕ) → length (partsFrom t s i) ≤ length s + 1
+unfolding partsFrom
+parts-few t s i = cond-both (λ (ps : List (List ℕ)). length ps ≤ length s + 1) (leb i (length s)) (omega (arith, split-few t (drop i s), length-drop i s)) (omega arith)
+
 -- ---- fields by their place
 
 module _ (line : List ℕ) (at : ℕ) where

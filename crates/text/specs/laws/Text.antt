@@ -60,7 +60,7 @@ pub decimal-more : (n : ℕ) → 10 ≤ n → decimal n ≡ decimal (n / 10) ++ 
 unfolding decimal
 decimal-more n h = digits-more n n h ∙ rw (digits-enough n (suc (n / 10)) (n / 10) (omega arith) (omega arith))
 
--- twenty digits are enough for 64 bits
+-- no more digits than the power of ten above has zeros
 digits-short : (k f n : ℕ) → n < 10 ^ suc k → length (digits f n) ≤ suc k
 unfolding digits
 digits-short k zero n h = zero-le
@@ -71,9 +71,14 @@ digits-short (suc k) (suc f) n h = rw length-append (at (ltb n 10) (digits-short
     at true r = omega arith
     at false r = omega arith
 
-pub decimal-short : (n : ℕ) → n < 2 ^ 64 → length (decimal n) ≤ 20
+-- a number below a power of ten has at most so many digits
+pub decimal-digits : (k n : ℕ) → n < 10 ^ suc k → length (decimal n) ≤ suc k
 unfolding decimal
-decimal-short n h = digits-short 19 (suc n) n (lt-of-lt-of-le h (lit≤ tt))
+decimal-digits k n h = digits-short k (suc n) n h
+
+-- twenty digits are enough for 64 bits
+pub decimal-short : (n : ℕ) → n < 2 ^ 64 → length (decimal n) ≤ 20
+decimal-short n h = decimal-digits 19 n (lt-of-lt-of-le h (lit≤ tt))
 
 -- no text
 pub wrote-none : (room : List ℕ) (at : ℕ) → Wrote room at [] room at

@@ -14,7 +14,7 @@ same-length : tie.Need-same-length
 same-length c = search needs
 
 returns : tie.Need-returns
-returns c = page-accepted (c .before .before .before .before .before .before .before .before .before .before .before .before .before .before .before .pre) (c .before .before .before .before .before .before .before .before .before .before .if1 .taken) (λ i. c .before .before .before .before .before .before .before .before .before .before .before .before .before .shared-slice-known2 .given i .fits) (c .before .before .before .before .before .before .judge-all .ensures) (c .before .before .total .ensures .0) (c .before .before .total .ensures .1)
+returns c = page-accepted (c .before .before .before .before .before .before .before .before .before .before .before .before .before .before .before .pre) (c .before .before .before .before .before .before .before .before .before .before .if1 .taken) (λ i. c .before .before .before .before .before .before .before .before .before .before .before .before .before .shared-slice-known2 .given i .fits) (c .before .before .before .before .before .before .judge-all .ensures) (c .before .before .total .ensures .0)
 
 refused-requires : tie.Need-refused-requires
 refused-requires c κs = search needs
