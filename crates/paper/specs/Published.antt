@@ -39,6 +39,8 @@ pub record Published (n : Counts) (lines : List Statement) : Type 1 where
 
 -- a store s that keeps what follows from the cells given, and the rules that are judged in it
 pub record PublishedStore (W : ℕ) (n : Counts) (Given : Cell → Type 0) (s : List ℕ) : Type 1 where
+  -- there is a model with minimal equality, so that what is said of each of them is said of one at least
+  pub exists : (I : Interpretation) × Minimal n Given I
   -- an item alone, or a pair, is among the findings exactly if its value breaks the condition
   pub finding : {k : ℕ} {u : Rule} {fs : List Finding} → Judged W n u s → Findings (Holds W n s) n k u fs → {I : Interpretation} → Minimal n Given I → (x : ℕ) (y : Second)
       → One (findingOf k x y) fs ↔ ValueBreaks n (Minimal n Given) I (u .nodes) (u .head) x y

@@ -11,7 +11,9 @@ use Rattle.logic.specs.laws.Number.{one-none}
 use Rattle.store.specs.declared.Counts.{Counts}
 use Rattle.store.specs.declared.Statement.{Statement}
 use Rattle.store.specs.Cell.{Cell, Nothing, Within}
-use Rattle.store.specs.Layout.{Holds}
+use Rattle.store.specs.Cell.Follows.{given}
+use Rattle.store.specs.Layout.{ClosedStore, Holds}
+use Rattle.store.specs.laws.Least.{closed-has}
 use Rattle.closure.specs.Lines.{Run, Stated}
 use Rattle.store.specs.Keeps.{Keeps}
 use Rattle.closure.specs.laws.Demand3.{demand-3}
@@ -73,6 +75,7 @@ module _ {W : ℕ} {n : Counts} {Given : Cell → Type 0} {s : List ℕ} (k : Ke
   -- for every store that keeps what follows, however it was built
   pub published-store : PublishedStore W n Given s
   published-store = record {
+    exists = (canonical (settled-store k), canonical-minimal (settled-store k));
     finding = λ {k = j} d f m x y.
         let r = theorem-c-finding (settled-store k) (d .form) (d .within) m x y in
         (λ o. r .0 (f .sound (findingOf j x y) o .1), λ v. f .whole x y (r .1 v));
@@ -81,6 +84,10 @@ module _ {W : ℕ} {n : Counts} {Given : Cell → Type 0} {s : List ℕ} (k : Ke
     query = λ d f c. Iff·trans (store-satisfied d f) (no-answer (demand-2-query (Holds W n s) n c f));
   }
 
--- and so for a store that is built line by line from a fresh one, and the lines that were accepted
+-- and so for every closed store, with its own cells as those given
+pub published-closed : {W : ℕ} {n : Counts} {s : List ℕ} → ClosedStore W n s → PublishedStore W n (Holds W n s) s
+published-closed k = published-store (record { store = k; sound = λ c h. given h; whole = λ c f. closed-has (k .closed) f })
+
+-- for a store that is built line by line from a fresh one, and the lines that were accepted
 pub published-run : {W : ℕ} {n : Counts} {s v : List ℕ} {lines kept : List Statement} {sum : ℕ} → Keeps W n Nothing s → Run W n s lines kept v sum → PublishedStore W n (Stated kept) v
 published-run {W} {n} k r = published-store (demand-3 W n .holds k r)
