@@ -47,12 +47,12 @@ KnownRole n U I u d e = KnownWay n U I (u .inverse) (u .role .0) d e
 pub record Equal {A : Type 0} (d e : A) : Type 1 where
   pub equal : d ≡ e
 
--- a set S has k or more elements
-pub record AtLeast {A : Type 0} (k : ℕ) (S : A → Type 1) : Type 1 where
-  pub elements : List A
+-- a set S of elements of the domain has k or more
+pub record AtLeast (I : Interpretation) (k : ℕ) (S : I .domain → Type 1) : Type 1 where
+  pub elements : List (I .domain)
   pub count : length elements ≡ k
   pub distinct : Distinct elements
-  pub each : (d : A) → One d elements → S d
+  pub each : (d : I .domain) → One d elements → S d
 
 -- d is in the value of a concept expression. 000 has no top of its own: it stands for not (C and not C), whose value is that of N_I
 unfoldable pub KnownOf : (n : Counts) (U : Interpretation → Type 1) (I : Interpretation) → Expr → I .domain → Type 1
@@ -60,7 +60,7 @@ KnownOf n U I (name c) d = KnownIn n U I (c .0) d
 KnownOf n U I top d = Named n I d
 KnownOf n U I (neg c) d = Named n I d × ¬ (KnownOf n U I c d)
 KnownOf n U I (both c e) d = KnownOf n U I c d × KnownOf n U I e d
-KnownOf n U I (many k u c) d = Named n I d × AtLeast k (λ (e : I .domain). Named n I e × KnownRole n U I u d e × KnownOf n U I c e)
+KnownOf n U I (many k u c) d = Named n I d × AtLeast I k (λ (e : I .domain). Named n I e × KnownRole n U I u d e × KnownOf n U I c e)
 KnownOf n U I (own u) d = Named n I d × KnownRole n U I u d d
 KnownOf n U I (one a) d = Equal d (I .item (a .0))
 

@@ -6,8 +6,8 @@ pub mod Told
 pub mod TheoremA
 pub mod TheoremB
 pub mod Lemmas
-pub mod Short
 pub mod Values
+pub mod Short
 pub mod Names
 pub mod TheoremC
 pub mod Published

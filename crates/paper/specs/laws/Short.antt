@@ -16,11 +16,11 @@ use Rattle.paper.specs.Interpretation.{Interpretation}
 use Rattle.paper.specs.Known.{AtLeast, KnownOf, KnownRole, Named}
 
 -- of k or more elements, k
-fewer : {A : Type 0} {S : A → Type 1} {ds : List A} (k : ℕ) → Distinct ds → k ≤ length ds → ((d : A) → One d ds → S d) → AtLeast k S
+fewer : {I : Interpretation} {S : I .domain → Type 1} {ds : List (I .domain)} (k : ℕ) → Distinct ds → k ≤ length ds → ((d : I .domain) → One d ds → S d) → AtLeast I k S
 fewer k none l f = record { elements = []; count = omega arith; distinct = none; each = f }
-fewer {A} {S} k (more {x = x} {xs = xs} a r) l f = go (decLt (length xs) k) (λ h. fewer k r h (λ d o. f d (later o)))
+fewer {I} {S} k (more {x = x} {xs = xs} a r) l f = go (decLt (length xs) k) (λ h. fewer k r h (λ d o. f d (later o)))
   where
-    go : Dec (length xs < k) → (k ≤ length xs → AtLeast k S) → AtLeast k S
+    go : Dec (length xs < k) → (k ≤ length xs → AtLeast I k S) → AtLeast I k S
     go (yes h) g = record { elements = x ∷ xs; count = omega arith; distinct = more a r; each = f }
     go (no h) g = g (omega arith)
 
@@ -39,6 +39,6 @@ module _ (n : Counts) (U : Interpretation → Type 1) (I : Interpretation) where
       In : I .domain → Type 1
       In e = Named n I e × KnownRole n U I u d e × KnownOf n U I c e
 
-      short : Named n I d × ¬ (Named n I d × AtLeast (suc j) In) → (ds : List (I .domain)) → Distinct ds → ((e : I .domain) → One e ds → In e) → Dec (j < length ds) → length ds ≤ j
+      short : Named n I d × ¬ (Named n I d × AtLeast I (suc j) In) → (ds : List (I .domain)) → Distinct ds → ((e : I .domain) → One e ds → In e) → Dec (j < length ds) → length ds ≤ j
       short v ds r f (yes l) = absurd (v .1 (v .0, fewer (suc j) r (omega arith) f))
       short v ds r f (no l) = omega arith

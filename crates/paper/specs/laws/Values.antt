@@ -130,14 +130,14 @@ module _ {n : Counts} {G C : Cell → Type 0} (k : Settled n G C) {I : Interpret
       }
 
   -- so many elements are so many articles
-  articles-of : {j : ℕ} {S : I .domain → Type 1} {P : ℕ → Type 0} → ((d : I .domain) → S d → Named n I d) → ((b : ℕ) → DeclaredItem n b → S (I .item b) → P b) → AtLeast j S → Articles C n j P
+  articles-of : {j : ℕ} {S : I .domain → Type 1} {P : ℕ → Type 0} → ((d : I .domain) → S d → Named n I d) → ((b : ℕ) → DeclaredItem n b → S (I .item b) → P b) → AtLeast I j S → Articles C n j P
   articles-of names f a = record { items = c .items; count = c .count ∙ a .count; each = λ b o. let r = c .from b o in (r .0, f b (r .0) (a .each (I .item b) (r .1))); different = c .different }
     where
       c : Chosen C n I (a .elements)
       c = chosen (a .distinct) (λ d o. names d (a .each d o))
 
   -- and so many articles are so many elements
-  elements-of : {j : ℕ} {S : I .domain → Type 1} {P : ℕ → Type 0} → ((b : ℕ) → DeclaredItem n b → P b → S (I .item b)) → Articles C n j P → AtLeast j S
+  elements-of : {j : ℕ} {S : I .domain → Type 1} {P : ℕ → Type 0} → ((b : ℕ) → DeclaredItem n b → P b → S (I .item b)) → Articles C n j P → AtLeast I j S
   elements-of {S = S} f a = record {
     elements = p .elements;
     count = p .count ∙ a .count;
