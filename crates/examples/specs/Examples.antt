@@ -2,7 +2,7 @@
 use mathlib.Core.Path.{_≡_}
 use mathlib.Core.Bool.{true, false}
 use mathlib.Core.List.{List, [], _∷_}
-use Prim.Native.Nat.{ℕ}
+use Prim.Native.Nat.{ℕ, _≤_, _<_}
 use lib.ListN.{length}
 use Rattle.row.specs.Bit.{Words}
 use Rattle.store.specs.declared.Counts.{Counts}
@@ -13,7 +13,7 @@ use Rattle.store.specs.declared.Statement.{Statement}
 use Rattle.store.specs.declared.Statement.the-variants as statement
 use Rattle.store.specs.Cell.{Nothing, DeclaredItem}
 use Rattle.store.specs.Cell.Cell.{Same, RoleUnder, Link}
-use Rattle.store.specs.Layout.{ClosedStore, Holds, width}
+use Rattle.store.specs.Layout.{ClosedStore, Fits, Holds, width}
 use Rattle.store.specs.Keeps.{Keeps}
 use Rattle.closure.specs.Promise.{Adds}
 use Rattle.closure.specs.Lines.{Stated}
@@ -25,7 +25,9 @@ use Rattle.rule.specs.declared.Rule.{Rule}
 use Rattle.rule.specs.Form.{nodeAt}
 use Rattle.rule.specs.Expr.Expr.{name, many}
 use Rattle.rule.specs.Findings.{Findings}
-use Rattle.query.specs.declared.Outcome.the-variants.{Compiled}
+use Rattle.query.specs.declared.Outcome.{Outcome}
+use Rattle.query.specs.declared.Outcome.the-variants.{Compiled, Refused}
+use Rattle.query.specs.declared.QueryRefusal.the-variants.{Room}
 use Rattle.query.specs.Body.{size}
 use Rattle.query.specs.Translation.{ofExpr}
 use Rattle.query.specs.Promise.{Compiles}
@@ -63,6 +65,14 @@ pub record IsAtLeast (k : ℕ) (u : Rule) : Type 0 where
   pub right : nodeAt (u .nodes) 1 ≡ AtLeast k (record { role = record { 0 = 0 }; inverse = false }) 2
   pub filler : nodeAt (u .nodes) 2 ≡ Name (record { 0 = 1 })
 
+-- the rule `sub Blade some fits Hub`, among counts within the limits that have its two concepts and its role
+pub record BladesFit (n : Counts) (u : Rule) : Type 0 where
+  pub fits : Fits width n
+  pub concepts : 2 ≤ n .concepts
+  pub roles : 1 ≤ n .roles
+  pub nodes : u .len ≡ 3
+  pub rule : IsAtLeast 1 u
+
 -- all the examples that are marked P
 pub record Examples : Type 0 where
   -- R under inverse of R, R links a to b: R links b to a
@@ -85,8 +95,10 @@ pub record Examples : Type 0 where
   -- with d1 same as d2: 1
   pub one-article : {s : List ℕ} {k : ℕ} {u : Rule} {fs : List Finding} → Keeps width threeItems (Stated (sameLinks ∷ twoLinks)) s → IsAtLeast 2 u
       → Findings (Holds width threeItems s) threeItems k u fs → length fs ≡ 1
-  -- `sub Blade some fits Hub`: 5 query items
-  pub five-items : {n : Counts} {before after : List ℕ} {items k : ℕ} {u : Rule} → IsAtLeast 1 u → Compiles width n u before after (Compiled items k) → items ≡ 5
+  -- `sub Blade some fits Hub`: 5 query items and 1 answer variable, in a room of 20 words or more
+  pub five-items : {n : Counts} {u : Rule} {before after : List ℕ} {r : Outcome} → BladesFit n u → 20 ≤ length before → Compiles width n u before after r → r ≡ Compiled 5 1
+  -- and in a shorter one it is refused by 6
+  pub five-items-room : {n : Counts} {u : Rule} {before after : List ℕ} {r : Outcome} → BladesFit n u → length before < 20 → Compiles width n u before after r → r ≡ Refused Room
   -- at least 2 R D: 7; 3: 15, for each role, each concept, each term and whatever the next variable
   pub seven-items : (r : RoleUse) (d : Concept) (t v : ℕ) → size (ofExpr (many 2 r (name d)) t v) ≡ 7
   pub fifteen-items : (r : RoleUse) (d : Concept) (t v : ℕ) → size (ofExpr (many 3 r (name d)) t v) ≡ 15

@@ -3,7 +3,7 @@ use Rattle.examples.specs.Examples.{Examples}
 use Rattle.examples.specs.laws.Store.{same-itself, same-two}
 use mathlib.Core.Path.{refl}
 use Rattle.text.specs.laws.Dates.{dates}
-use Rattle.examples.specs.laws.Queries.{five-items}
+use Rattle.examples.specs.laws.Queries.{five-items, five-items-room}
 use Rattle.examples.specs.laws.Rules.{ref-none, ref-one, two-articles, one-article}
 
 -- all of them
@@ -17,7 +17,8 @@ examples = record {
   ref-one = ref-one;
   two-articles = two-articles;
   one-article = one-article;
-  five-items = five-items;
+  five-items = λ b l c. five-items b l c;
+  five-items-room = λ b l c. five-items-room b l c;
   seven-items = λ r d t v. refl;
   fifteen-items = λ r d t v. refl;
   dates = (dates .0, dates .1);
