@@ -1,0 +1,56 @@
+-- What reading, listing, printing and checking an accepted sheet give: its violations in the published reading.
+use mathlib.Core.Path.{_≡_}
+use mathlib.Core.Logic.{_↔_}
+use mathlib.Core.List.{List, _++_}
+use Prim.Native.Nat.{ℕ, min}
+use lib.IntN.{ℤ}
+use lib.ListN.{length, take, drop}
+use Rattle.store.specs.Layout.{size, width}
+use Rattle.rule.specs.declared.Finding.{Finding}
+use Rattle.rule.specs.declared.Rule.{Rule}
+use Rattle.rule.specs.declared.Second.{Second}
+use Rattle.field.specs.Names.{countsOf}
+use Rattle.sheet.specs.declared.Reading.{Reading}
+use Rattle.sheet.specs.declared.Reading.the-variants.{Accepted}
+use Rattle.sheet.specs.Promise.{Prints, Reads, findingsText, printLimit, totalText}
+use Rattle.sheet.specs.Said.{Said}
+use Rattle.listing.specs.Promise.{ReadsInto}
+use Rattle.why.specs.Finding.{RuleAt}
+use Rattle.saltreeve.specs.Check.{Checks, ChecksIn}
+use Rattle.saltreeve.specs.Room.{InRoom}
+use Rattle.paper.specs.Interpretation.{Interpretation}
+use Rattle.paper.specs.Satisfied.{ICSatisfies}
+use Rattle.verdict.specs.Violations.{Given, Models, Violates, Violations}
+
+-- the answer for a sheet with these violations: what it declares, its rules, and how many they are
+abbrev pub answerOf : Said → List Finding → Reading
+answerOf x fs = Accepted (countsOf (x .names)) (length (x .rules)) (length fs)
+
+-- the text for a sheet with these violations: a line each, 200 at most, and how many they are
+abbrev pub textOf : Said → List Finding → List ℕ
+textOf x fs = findingsText x (take printLimit fs) ++ totalText (length fs)
+
+-- the list that was lent begins with the first of these as far as it reaches, and goes on as it was
+abbrev pub filled : List Finding → List Finding → List Finding
+filled fs before = take (min (length fs) (length before)) fs ++ drop (min (length fs) (length before)) before
+
+-- of an accepted sheet, which says x: one field a sentence
+pub record SheetVerdict (sheet : List ℕ) (x : Said) : Type 1 where
+  -- there is a model with minimal equality of its statements, so that "in every model" is said of one at least
+  pub exists : (I : Interpretation) × Models x I
+  -- its violations are one list
+  pub one : {fs gs : List Finding} → Violations x fs → Violations x gs → fs ≡ gs
+  -- a rule is IC-satisfied exactly if nothing violates it
+  pub satisfied : {k : ℕ} {u : Rule} → RuleAt x k u → ICSatisfies (countsOf (x .names)) (Given x) u ↔ ((a : ℕ) (b : Second) → ¬ (Violates x k a b))
+  -- reading the sheet counts them
+  pub read : {s t : List ℕ} {r : Reading} → length s ≡ size width → Reads sheet s t r → (fs : List Finding) × Violations x fs × (r ≡ answerOf x fs)
+  -- reading it with a list lists them
+  pub listed : {s t : List ℕ} {before after : List Finding} {r : Reading} → length s ≡ size width → ReadsInto sheet s t before after r
+      → (fs : List Finding) × Violations x fs × (r ≡ answerOf x fs) × (after ≡ filled fs before)
+  -- printing prints them
+  pub printed : {text : List ℕ} → Prints sheet text → (fs : List Finding) × Violations x fs × (text ≡ textOf x fs)
+  -- `saltreeve_check` puts their text into the room, or says that it is too long
+  pub checked : {room exit : List ℕ} {r : ℤ} → Checks sheet room exit r → (fs : List Finding) × Violations x fs × InRoom (λ (text : List ℕ). text ≡ textOf x fs) room exit r
+  -- so does `saltreeve_check_in`, with a lent store
+  pub checked-in : {s t room exit : List ℕ} {r : ℤ} → length s ≡ size width → ChecksIn sheet s t room exit r
+      → (fs : List Finding) × Violations x fs × InRoom (λ (text : List ℕ). text ≡ textOf x fs) room exit r

@@ -1,0 +1,45 @@
+-- The violations of a sheet's rules over its statements, in the published reading.
+use mathlib.Core.Path.{_≡_}
+use mathlib.Core.Logic.{_↔_, _⊎_}
+use mathlib.Core.List.{List, [], _∷_}
+use Prim.Native.Nat.{ℕ, _<_}
+use Rattle.logic.specs.Number.{One}
+use Rattle.store.specs.Cell.{Cell}
+use Rattle.closure.specs.Lines.{Stated}
+use Rattle.rule.specs.declared.Finding.{Finding}
+use Rattle.rule.specs.declared.Rule.{Rule}
+use Rattle.rule.specs.declared.Second.{Second}
+use Rattle.rule.specs.Findings.{Before}
+use Rattle.field.specs.Names.{countsOf}
+use Rattle.sheet.specs.Said.{Said, statementsOf}
+use Rattle.why.specs.Finding.{RuleAt}
+use Rattle.paper.specs.Interpretation.{Interpretation, Minimal}
+use Rattle.paper.specs.Satisfied.{ValueBreaks}
+
+-- the cells that the statements of a sheet state
+abbrev pub Given : Said → Cell → Type 0
+Given x = Stated (statementsOf (x .statements))
+
+-- the models with minimal equality of a sheet's statements
+abbrev pub Models : Said → Interpretation → Type 1
+Models x = Minimal (countsOf (x .names)) (Given x)
+
+-- the item a alone, or the pair of a and b, violates the rule of the sheet with the number k, from 0: in every model with minimal equality its value breaks the rule's condition
+pub record Violates (x : Said) (k a : ℕ) (b : Second) : Type 1 where
+  pub rule : Rule
+  pub there : RuleAt x k rule
+  pub breaks : (I : Interpretation) → Models x I → ValueBreaks (countsOf (x .names)) (Models x) I (rule .nodes) (rule .head) a b
+
+-- the order of a sheet's violations: by rule, then item, then second item
+abbrev pub Earlier : Finding → Finding → Type 0
+Earlier f g = (f .rule < g .rule) ⊎ ((f .rule ≡ g .rule) × Before f g)
+
+-- each of the list comes before those after it, and so is there once
+pub data InTurn : List Finding → Type 0 where
+  none : InTurn []
+  more : {f : Finding} {fs : List Finding} → ((g : Finding) → One g fs → Earlier f g) → InTurn fs → InTurn (f ∷ fs)
+
+-- the list has exactly the violations of the sheet's rules over its statements, each once, in order
+pub record Violations (x : Said) (fs : List Finding) : Type 1 where
+  pub exactly : (f : Finding) → One f fs ↔ Violates x (f .rule) (f .item .0) (f .second)
+  pub ordered : InTurn fs

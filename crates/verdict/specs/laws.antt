@@ -1,0 +1,5 @@
+-- What is proved of the verdict on a sheet.
+pub mod Declared
+pub mod Turn
+pub mod Violations
+pub mod Verdict
