@@ -5,10 +5,10 @@ use mathlib.Core.List.{List, _++_}
 use Prim.Native.Nat.{ℕ, min}
 use lib.IntN.{ℤ}
 use lib.ListN.{length, take, drop}
+use Rattle.logic.specs.Number.{One}
 use Rattle.store.specs.Layout.{size, width}
 use Rattle.rule.specs.declared.Finding.{Finding}
 use Rattle.rule.specs.declared.Rule.{Rule}
-use Rattle.rule.specs.declared.Second.{Second}
 use Rattle.field.specs.Names.{countsOf}
 use Rattle.sheet.specs.declared.Reading.{Reading}
 use Rattle.sheet.specs.declared.Reading.the-variants.{Accepted}
@@ -20,7 +20,7 @@ use Rattle.saltreeve.specs.Check.{Checks, ChecksIn}
 use Rattle.saltreeve.specs.Room.{InRoom}
 use Rattle.paper.specs.Interpretation.{Interpretation}
 use Rattle.paper.specs.Satisfied.{ICSatisfies}
-use Rattle.verdict.specs.Violations.{Given, Models, Violates, Violations}
+use Rattle.verdict.specs.Violations.{Given, Models, Violations}
 
 -- the answer for a sheet with these violations: what it declares, its rules, and how many they are
 abbrev pub answerOf : Said → List Finding → Reading
@@ -38,19 +38,19 @@ filled fs before = take (min (length fs) (length before)) fs ++ drop (min (lengt
 pub record SheetVerdict (sheet : List ℕ) (x : Said) : Type 1 where
   -- there is a model with minimal equality of its statements, so that "in every model" is said of one at least
   pub exists : (I : Interpretation) × Models x I
-  -- its violations are one list
-  pub one : {fs gs : List Finding} → Violations x fs → Violations x gs → fs ≡ gs
-  -- a rule is IC-satisfied exactly if nothing violates it
-  pub satisfied : {k : ℕ} {u : Rule} → RuleAt x k u → ICSatisfies (countsOf (x .names)) (Given x) u ↔ ((a : ℕ) (b : Second) → ¬ (Violates x k a b))
+  -- there is the list of its violations, and no other
+  pub list : List Finding
+  pub violations : Violations x list
+  pub no-other : {fs : List Finding} → Violations x fs → fs ≡ list
+  -- the statements IC-satisfy a rule exactly if none of the list is a violation of it
+  pub satisfied : {k : ℕ} {u : Rule} → RuleAt x k u → ICSatisfies (countsOf (x .names)) (Given x) u ↔ ((f : Finding) → One f list → ¬ (f .rule ≡ k))
   -- reading the sheet counts them
-  pub read : {s t : List ℕ} {r : Reading} → length s ≡ size width → Reads sheet s t r → (fs : List Finding) × Violations x fs × (r ≡ answerOf x fs)
+  pub read : {s t : List ℕ} {r : Reading} → length s ≡ size width → Reads sheet s t r → r ≡ answerOf x list
   -- reading it with a list lists them
-  pub listed : {s t : List ℕ} {before after : List Finding} {r : Reading} → length s ≡ size width → ReadsInto sheet s t before after r
-      → (fs : List Finding) × Violations x fs × (r ≡ answerOf x fs) × (after ≡ filled fs before)
+  pub listed : {s t : List ℕ} {before after : List Finding} {r : Reading} → length s ≡ size width → ReadsInto sheet s t before after r → (r ≡ answerOf x list) × (after ≡ filled list before)
   -- printing prints them
-  pub printed : {text : List ℕ} → Prints sheet text → (fs : List Finding) × Violations x fs × (text ≡ textOf x fs)
+  pub printed : {text : List ℕ} → Prints sheet text → text ≡ textOf x list
   -- `saltreeve_check` puts their text into the room, or says that it is too long
-  pub checked : {room exit : List ℕ} {r : ℤ} → Checks sheet room exit r → (fs : List Finding) × Violations x fs × InRoom (λ (text : List ℕ). text ≡ textOf x fs) room exit r
+  pub checked : {room exit : List ℕ} {r : ℤ} → Checks sheet room exit r → InRoom (λ (text : List ℕ). text ≡ textOf x list) room exit r
   -- so does `saltreeve_check_in`, with a lent store
-  pub checked-in : {s t room exit : List ℕ} {r : ℤ} → length s ≡ size width → ChecksIn sheet s t room exit r
-      → (fs : List Finding) × Violations x fs × InRoom (λ (text : List ℕ). text ≡ textOf x fs) room exit r
+  pub checked-in : {s t room exit : List ℕ} {r : ℤ} → length s ≡ size width → ChecksIn sheet s t room exit r → InRoom (λ (text : List ℕ). text ≡ textOf x list) room exit r

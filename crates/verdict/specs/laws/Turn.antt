@@ -67,9 +67,10 @@ turn-unique (more {f = f} {fs = fs} b o) (more {f = g} {fs = gs} d r) p q = ap�
 -- findings of one number in order, before those of greater ones
 turn-join : {k : ℕ} {fs gs : List Finding} → InOrder fs → ((f : Finding) → One f fs → f .rule ≡ k) → InTurn gs → ((g : Finding) → One g gs → k < g .rule) → InTurn (fs ++ gs)
 turn-join order-none at t above = t
-turn-join (order-more {f = f} {fs = fs} b o) at t above =
-    more (λ g q. ⊎-elim (λ p. inr (at f first ∙ sym (at g (later p)), b g p)) (λ p. inl (omega (arith, at f first, above g p))) (one-either fs q))
-    (turn-join o (λ g q. at g (later q)) t above)
+turn-join {gs = gs} (order-more {f = f} {fs = fs} b o) at t above = more ahead (turn-join o (λ g q. at g (later q)) t above)
+  where
+    ahead : (g : Finding) → One g (fs ++ gs) → Earlier f g
+    ahead g q = ⊎-elim (λ p. inr (at f first ∙ sym (at g (later p)), b g p)) (λ p. inl (omega (arith, at f first, above g p))) (one-either fs q)
 
 -- ---- the findings of rules, from the number k on
 

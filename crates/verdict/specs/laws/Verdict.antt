@@ -1,13 +1,15 @@
 -- Whatever is read, listed, printed or checked of an accepted sheet, it is its violations. Assumes nothing.
-use mathlib.Core.Path.{_≡_, sym, ap, _∙_, subst}
+use mathlib.Core.Path.{_≡_, sym, ap, ap₂, _∙_, subst}
 use mathlib.Core.List.{List}
 use Prim.Native.Nat.{ℕ}
 use lib.IntN.{ℤ}
 use lib.ListN.{length}
+use Rattle.store.specs.Cell.{Follows}
 use Rattle.store.specs.Layout.{size, width}
 use Rattle.rule.specs.declared.Finding.{Finding}
+use Rattle.field.specs.Names.{countsOf}
 use Rattle.sheet.specs.declared.Reading.{Reading}
-use Rattle.sheet.specs.Promise.{FindingsIn, Held, Prints, Reads}
+use Rattle.sheet.specs.Promise.{FindingsFrom, FindingsIn, Held, Prints, Reads}
 use Rattle.sheet.specs.Promise.Prints.{refused as refusedPrint, accepted as acceptedPrint}
 use Rattle.sheet.specs.Promise.Reads.{wrong-size, refused as refusedRead, accepted as acceptedRead}
 use Rattle.sheet.specs.Said.{Said, outcome}
@@ -17,67 +19,67 @@ use Rattle.listing.specs.Promise.{ReadsInto}
 use Rattle.listing.specs.Promise.ReadsInto.{refused as refusedList, accepted as acceptedList}
 use Rattle.report.specs.Promise.{PrintsIn}
 use Rattle.report.specs.Promise.PrintsIn.{wrong-size as wrong-store, printed}
-use Rattle.saltreeve.specs.Check.{Checks, ChecksIn}
 use Rattle.saltreeve.specs.Room.{InRoom}
 use Rattle.saltreeve.specs.Room.InRoom.{too-long, written}
-use Rattle.paper.specs.laws.Canonical.{canonical}
+use Rattle.paper.specs.laws.Canonical.{Settled, canonical, settled-obeys}
 use Rattle.paper.specs.laws.TheoremB.{canonical-minimal}
 use Rattle.paper.specs.laws.Told.{settled-lines, settled-store}
 use Rattle.verdict.specs.Verdict.{SheetVerdict, answerOf, filled, textOf}
-use Rattle.verdict.specs.Violations.{Violations}
+use Rattle.verdict.specs.Violations.{Given, Violations}
 use Rattle.verdict.specs.laws.Declared.{given-within}
-use Rattle.verdict.specs.laws.Violations.{found-violations, satisfied-violates, violations-unique}
+use Rattle.verdict.specs.laws.Told.{all-findings}
+use Rattle.verdict.specs.laws.Violations.{found-violations, satisfied-none, violations-unique}
+
+-- a text in a room is in it by whatever is true of it
+room-by : {P Q : List ℕ → Type 0} {room exit : List ℕ} {r : ℤ} → ((text : List ℕ) → P text → Q text) → InRoom P room exit r → InRoom Q room exit r
+room-by f (too-long {text = text} p l e) = too-long (f text p) l e
+room-by f (written {text = text} p l e) = written (f text p) l e
 
 module _ (sheet : List ℕ) {x : Said} (o : outcome sheet ≡ accepted x) where
-  -- what a run found in its store
-  found : {y : Said} {t : List ℕ} {fs : List Finding} → outcome sheet ≡ accepted y → Held y t → FindingsIn y t fs → (y ≡ x) × Violations x fs
+  settled : Settled (countsOf (x .names)) (Given x) (Follows (countsOf (x .names)) (Given x))
+  settled = settled-lines (given-within sheet o)
+
+  all : (fs : List Finding) × FindingsFrom (Follows (countsOf (x .names)) (Given x)) (countsOf (x .names)) 0 (x .rules) fs
+  all = all-findings (settled-obeys settled) (settled .tell) 0 (x .rules)
+
+  are : Violations x (all .0)
+  are = found-violations sheet o settled (all .1)
+
+  -- what a run found in its store is the same list
+  found : {y : Said} {t : List ℕ} {fs : List Finding} → outcome sheet ≡ accepted y → Held y t → FindingsIn y t fs → (y ≡ x) × (fs ≡ all .0)
   found {y} {t} {fs} i h m =
       let same : y ≡ x = ap saidOf (sym i ∙ o) in
-      (same, found-violations sheet o (settled-store (subst (λ (z : Said). Held z t) same h)) (subst (λ (z : Said). FindingsIn z t fs) same m))
+      (same, violations-unique (found-violations sheet o (settled-store (subst (λ (z : Said). Held z t) same h)) (subst (λ (z : Said). FindingsIn z t fs) same m)) are)
 
-  read : {s t : List ℕ} {r : Reading} → length s ≡ size width → Reads sheet s t r → (fs : List Finding) × Violations x fs × (r ≡ answerOf x fs)
+  read : {s t : List ℕ} {r : Reading} → length s ≡ size width → Reads sheet s t r → r ≡ answerOf x (all .0)
   read l (wrong-size z e) = absurd (z l)
   read l (refusedRead h i p) = absurd (not-both (sym i ∙ o))
-  read l (acceptedRead {fs = fs} h i p m) = let z = found i p m in (fs, z .1, ap (λ (y : Said). answerOf y fs) (z .0))
+  read l (acceptedRead h i p m) = let z = found i p m in ap₂ answerOf (z .0) (z .1)
 
-  listed : {s t : List ℕ} {before after : List Finding} {r : Reading} → length s ≡ size width → ReadsInto sheet s t before after r
-      → (fs : List Finding) × Violations x fs × (r ≡ answerOf x fs) × (after ≡ filled fs before)
+  listed : {s t : List ℕ} {before after : List Finding} {r : Reading} → length s ≡ size width → ReadsInto sheet s t before after r → (r ≡ answerOf x (all .0)) × (after ≡ filled (all .0) before)
   listed l (refusedList (wrong-size z q) e) = absurd (z l)
   listed l (refusedList (refusedRead h i p) e) = absurd (not-both (sym i ∙ o))
-  listed l (acceptedList {fs = fs} h i p m e) = let z = found i p m in (fs, z .1, ap (λ (y : Said). answerOf y fs) (z .0), e)
+  listed {before = before} l (acceptedList h i p m e) = let z = found i p m in (ap₂ answerOf (z .0) (z .1), e ∙ ap (λ (fs : List Finding). filled fs before) (z .1))
 
-  prints : {text : List ℕ} → Prints sheet text → (fs : List Finding) × Violations x fs × (text ≡ textOf x fs)
+  prints : {text : List ℕ} → Prints sheet text → text ≡ textOf x (all .0)
   prints (refusedPrint i) = absurd (not-both (sym i ∙ o))
-  prints (acceptedPrint {fs = fs} i w p m) = let z = found i p m in (fs, z .1, ap (λ (y : Said). textOf y fs) (z .0))
+  prints (acceptedPrint i w p m) = let z = found i p m in ap₂ textOf (z .0) (z .1)
 
-  -- in a room
-  checked : {room exit : List ℕ} {r : ℤ} → Checks sheet room exit r → (fs : List Finding) × Violations x fs × InRoom (λ (text : List ℕ). text ≡ textOf x fs) room exit r
-  checked (too-long p l e) = let z = prints p in (z .0, z .1, too-long (z .2) l e)
-  checked (written p l e) = let z = prints p in (z .0, z .1, written (z .2) l e)
-
-  in-store : {s text : List ℕ} → length s ≡ size width → PrintsIn sheet s text → Prints sheet text
-  in-store l (wrong-store z) = absurd (z l)
-  in-store l (printed h p) = p
-
-  checked-in : {s t room exit : List ℕ} {r : ℤ} → length s ≡ size width → ChecksIn sheet s t room exit r
-      → (fs : List Finding) × Violations x fs × InRoom (λ (text : List ℕ). text ≡ textOf x fs) room exit r
-  checked-in {s} {room = room} {exit = exit} l c = checked (go (c .text))
-    where
-      go : {r : ℤ} → InRoom (PrintsIn sheet s) room exit r → InRoom (Prints sheet) room exit r
-      go (too-long p h e) = too-long (in-store l p) h e
-      go (written p h e) = written (in-store l p) h e
+  prints-in : {s text : List ℕ} → length s ≡ size width → PrintsIn sheet s text → text ≡ textOf x (all .0)
+  prints-in l (wrong-store z) = absurd (z l)
+  prints-in l (printed h p) = prints p
 
   -- the verdict on every accepted sheet
   pub sheet-verdict : SheetVerdict sheet x
-  sheet-verdict =
-      let s = settled-lines (given-within sheet o) in
-      record {
-        exists = (canonical s, canonical-minimal s);
-        one = violations-unique;
-        satisfied = satisfied-violates sheet o s;
-        read = read;
-        listed = listed;
-        printed = prints;
-        checked = checked;
-        checked-in = checked-in;
-      }
+  sheet-verdict = record {
+    exists = (canonical settled, canonical-minimal settled);
+    list = all .0;
+    violations = are;
+    no-other = λ v. violations-unique v are;
+    satisfied = λ p. satisfied-none sheet o settled are p;
+    read = read;
+    listed = listed;
+    printed = prints;
+    checked = λ c. room-by (λ text p. prints p) c;
+    checked-in = λ l c. room-by (λ text p. prints-in l p) (c .text);
+  }

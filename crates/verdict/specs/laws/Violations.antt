@@ -1,5 +1,5 @@
 -- The findings of an accepted sheet's rules are its violations. Assumes nothing.
-use mathlib.Core.Path.{_≡_, sym, subst}
+use mathlib.Core.Path.{_≡_, refl, sym, subst}
 use mathlib.Core.Logic.{_↔_}
 use mathlib.Core.List.{List}
 use Prim.Native.Nat.{ℕ}
@@ -50,13 +50,6 @@ module _ (sheet : List ℕ) {x : Said} (o : outcome sheet ≡ accepted x) {C : C
       g : Good (countsOf (x .names)) u
       g = good-at p
 
-  -- a rule is satisfied exactly if nothing violates it
-  pub satisfied-violates : {k : ℕ} {u : Rule} → RuleAt x k u → ICSatisfies (countsOf (x .names)) (Given x) u ↔ ((a : ℕ) (b : Second) → ¬ (Violates x k a b))
-  satisfied-violates p =
-      let g = good-at p in
-      let c = theorem-c s (g .form) (g .within) in
-      (λ z a b v. c .0 z a b (breaks-violates p a b .1 v), λ f. c .1 (λ a b h. f a b (breaks-violates p a b .0 h)))
-
   -- the findings of the rules are the violations
   pub found-violations : {fs : List Finding} → FindingsFrom C (countsOf (x .names)) 0 (x .rules) fs → Violations x fs
   found-violations {fs} m = record { exactly = λ f. (λ q. to f (from-placed m q), λ v. from f v); ordered = from-turn m }
@@ -69,3 +62,12 @@ module _ (sheet : List ℕ) {x : Said} (o : outcome sheet ≡ accepted x) {C : C
           let p = v .there in
           subst (λ (j : ℕ). One (findingOf j (f .item .0) (f .second)) fs) (omega (arith, p .place))
           (from-has (p .before) (record { line = p .line; rule = v .rule }) (p .after) (subst (λ (rs : List SheetRule). FindingsFrom C (countsOf (x .names)) 0 rs fs) (p .is) m) (breaks-violates p (f .item .0) (f .second) .1 v))
+
+  -- a rule is satisfied exactly if none of them is a violation of it
+  pub satisfied-none : {fs : List Finding} {k : ℕ} {u : Rule} → Violations x fs → RuleAt x k u → ICSatisfies (countsOf (x .names)) (Given x) u ↔ ((f : Finding) → One f fs → ¬ (f .rule ≡ k))
+  satisfied-none {k = k} v p =
+      let g = good-at p in
+      let c = theorem-c s (g .form) (g .within) in (
+        λ z f q e. c .0 z (f .item .0) (f .second) (breaks-violates p (f .item .0) (f .second) .1 (subst (λ (j : ℕ). Violates x j (f .item .0) (f .second)) e (v .exactly f .0 q))),
+        λ none. c .1 (λ a b h. none (findingOf k a b) (v .exactly (findingOf k a b) .1 (breaks-violates p a b .0 h)) refl),
+      )
