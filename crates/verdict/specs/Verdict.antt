@@ -20,7 +20,7 @@ use Rattle.saltreeve.specs.Check.{Checks, ChecksIn}
 use Rattle.saltreeve.specs.Room.{InRoom}
 use Rattle.paper.specs.Interpretation.{Interpretation}
 use Rattle.paper.specs.Satisfied.{ICSatisfies}
-use Rattle.verdict.specs.Violations.{Given, Models, Violations}
+use Rattle.verdict.specs.Violations.{Given, MinimalModel, Violations}
 
 -- the answer for a sheet with these violations: what it declares, its rules, and how many they are
 abbrev pub answerOf : Said → List Finding → Reading
@@ -37,7 +37,7 @@ filled fs before = take (min (length fs) (length before)) fs ++ drop (min (lengt
 -- of an accepted sheet, which says x: one field a sentence
 pub record SheetVerdict (sheet : List ℕ) (x : Said) : Type 1 where
   -- there is a model with minimal equality of its statements, so that "in every model" is said of one at least
-  pub exists : (I : Interpretation) × Models x I
+  pub exists : (I : Interpretation) × MinimalModel x I
   -- there is the list of its violations, and no other
   pub list : List Finding
   pub violations : Violations x list

@@ -20,15 +20,15 @@ use Rattle.paper.specs.Satisfied.{ValueBreaks}
 abbrev pub Given : Said → Cell → Type 0
 Given x = Stated (statementsOf (x .statements))
 
--- the models with minimal equality of a sheet's statements
-abbrev pub Models : Said → Interpretation → Type 1
-Models x = Minimal (countsOf (x .names)) (Given x)
+-- an interpretation is a model with minimal equality of the statements of a sheet
+abbrev pub MinimalModel : Said → Interpretation → Type 1
+MinimalModel x = Minimal (countsOf (x .names)) (Given x)
 
--- the item a alone, or the pair of a and b, violates the rule of the sheet with the number k, from 0: in every model with minimal equality its value breaks the rule's condition
+-- the item a alone, or the pair of a and b, violates the rule with the number k, from 0, of the sheet: its value breaks the condition of the rule in every model with minimal equality
 pub record Violates (x : Said) (k a : ℕ) (b : Second) : Type 1 where
   pub rule : Rule
   pub there : RuleAt x k rule
-  pub breaks : (I : Interpretation) → Models x I → ValueBreaks (countsOf (x .names)) (Models x) I (rule .nodes) (rule .head) a b
+  pub breaks : (I : Interpretation) → MinimalModel x I → ValueBreaks (countsOf (x .names)) (MinimalModel x) I (rule .nodes) (rule .head) a b
 
 -- the order of a sheet's violations: by rule, then item, then second item
 abbrev pub Earlier : Finding → Finding → Type 0
