@@ -1,6 +1,6 @@
 -- Laws of the rows of an expression: a node's row follows from its children's rows. Assumes nothing.
 use mathlib.Core.Path.{_≡_, refl, sym, ap, _∙_, subst}
-use mathlib.Core.Bool.{Bool, not, true, false, true≢false}
+use mathlib.Core.Bool.{Bool, not, true, true≢false}
 use mathlib.Core.List.{List}
 use Prim.Native.Nat.{ℕ, _-_}
 use borrow.Author.Tests.{not-true}

@@ -51,7 +51,3 @@ listed-iff f g a = record { ordered = a .ordered; sound = λ h o. let q = a .sou
 -- the findings of a rule are the list of what breaks it
 pub findings-listed : {C : Cell → Type 0} {n : Counts} {number : ℕ} {u : Rule} {fs : List Finding} → Findings C n number u fs → Listed number (Breaks C n u) fs
 findings-listed a = record { ordered = a .ordered; sound = a .sound; whole = a .whole }
-
--- and the other way
-pub listed-findings : (C : Cell → Type 0) (n : Counts) {number : ℕ} (u : Rule) {fs : List Finding} → Listed number (Breaks C n u) fs → Findings C n number u fs
-listed-findings C n u a = record { ordered = a .ordered; sound = a .sound; whole = a .whole }

@@ -4,14 +4,14 @@ use mathlib.Core.Logic.{_⊎_, inl, inr, ⊎-elim}
 use mathlib.Core.Bool.{Bool, true, false}
 use mathlib.Core.List.{List}
 use Prim.Native.Nat.{ℕ, zero, suc, _+_, _-_, _*_, _/_, _%_, _^_, _≤_, _<_, min, max}
-use native.Mathlib.Nat.{mod-lt, zero-lt-suc, div-add-mod', zero-max, pow-suc, add-comm, div-eq-of-lt, div-one, lt-of-lt-of-le, lt-of-le-of-lt, mul-div-cancel, zero-div, mul-mod-left, div-self}
+use native.Mathlib.Nat.{mod-lt, zero-lt-suc, div-add-mod', zero-max, pow-suc, div-eq-of-lt, div-one, lt-of-lt-of-le, lt-of-le-of-lt, mul-div-cancel, zero-div, mul-mod-left, div-self}
 use native.Mathlib.Omega.{arith}
 use native.Mathlib.Decide.{ℕ-discrete, decLt}
 use native.Mathlib.Numerals.{add-one, one-add}
 use borrow.Author.Tests.{eqb-true, eqb-false, eq-eqb}
 use lib.Arith.{digits-mod, lt-one, bin-ind}
 use lib.Pow.{pow-pos, pow-mono, shr-shr, shr-lt, shr-le, split}
-use lib.Bits.{and-le-l, bitOr, bitAnd, or-step, and-step, or-shr, and-shr}
+use lib.Bits.{bitOr, bitAnd, or-step, and-step, or-shr, and-shr}
 use lib.Count.{ones, ones-step}
 use lib.ListN.{getD}
 use Rattle.row.specs.Bit.{Has}
@@ -208,29 +208,6 @@ pub ones-zero : ones 0 ≡ 0
 unfolding ones
 ones-zero = refl
 
-pub ones-pow : (j : ℕ) → ones (2 ^ j) ≡ 1
-unfolding ones
-ones-pow zero = refl
-ones-pow (suc j) = omega (arith, ones-step (2 ^ suc j), pow-even j, ap ones (pow-half j), ones-pow j)
-
--- what | has and what & has, together, are counted as the two words
-pub ones-or-and : (a b : ℕ) → ones (bitOr a b) + ones (bitAnd a b) ≡ ones a + ones b
-ones-or-and a =
-    bin-ind (λ (n : ℕ). (b : ℕ) → ones (bitOr n b) + ones (bitAnd n b) ≡ ones n + ones b) (λ b. add-comm (ones b) (ones 0))
-    (λ n ih b.
-    omega (
-      arith,
-      ih (b / 2),
-      ones-step (bitOr n b),
-      ones-step (bitAnd n b),
-      ones-step n,
-      ones-step b,
-      or-odd n b,
-      and-odd n b,
-      ap ones (or-shr n b 1),
-      ap ones (and-shr n b 1),
-    )) a
-
 -- a part of a word's bits is counted below it
 pub ones-part : (w a b : ℕ) → a < 2 ^ w → ((k : ℕ) → k < w → Has a k → Has b k) → ones a ≤ ones b
 ones-part zero a b h f = omega (arith, ap ones (lt-one h), ones-zero)
@@ -238,23 +215,6 @@ ones-part (suc w) a b h f =
     let ih = ones-part w (a / 2) (b / 2) (half-lt w a h) (λ k l x. has-half b k (f (suc k) (omega arith) (half-has a k x))) in
     let lo : a % 2 ≤ b % 2 = digit-le (a % 2) (b % 2) (mod-lt a two-pos) (λ e. zero-has b (f 0 (omega arith) (has-zero a e))) in
     omega (arith, ones-step a, ones-step b)
-
--- a bit that was clear is one more
-pub ones-set : (w a j : ℕ) → a < 2 ^ w → j < w → ¬ (Has a j) → ones (bitOr a (2 ^ j)) ≡ ones a + 1
-ones-set w a j h l c =
-    let none : bitAnd a (2 ^ j) ≡ 0 =
-    no-bits w (bitAnd a (2 ^ j)) (lt-of-le-of-lt (and-le-l a (2 ^ j)) h)
-    (λ k lk x. c (subst (λ (i : ℕ). Has a i) (has-pow j k (and-right a (2 ^ j) k x)) (and-left a (2 ^ j) k x)))
-    in
-    omega (arith, ones-or-and a (2 ^ j), ap ones none, ones-zero, ones-pow j)
-
-lt-two-pow : (a : ℕ) → a < 2 ^ a
-lt-two-pow zero = pow-pos 0
-lt-two-pow (suc a) = omega (arith, lt-two-pow a, pow-suc 2 a)
-
--- | counts at least what either has
-pub ones-or-le : (a b : ℕ) → ones a ≤ ones (bitOr a b)
-ones-or-le a b = ones-part a a (bitOr a b) (lt-two-pow a) (λ k l x. or-left a b k x)
 
 -- ---- the bits below n
 

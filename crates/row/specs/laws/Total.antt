@@ -1,22 +1,15 @@
 -- Laws of a list of words: the number of its set bits, and that its bits settle it. Assumes nothing.
 use mathlib.Core.Path.{_≡_, ap, _∙_}
 use mathlib.Core.List.{List, [], _∷_, _++_}
-use Prim.Native.Nat.{ℕ, zero, suc, _+_, _≤_, _<_}
+use Prim.Native.Nat.{ℕ, suc, _+_, _≤_, _<_}
 use native.Mathlib.Omega.{arith}
-use native.Mathlib.Nat.{le-of-suc-le-suc, not-suc-le-zero}
 use native.Mathlib.Numerals.{add-one}
-use lib.ListN.{length, getD, set, take}
+use lib.ListN.{length, getD, take}
 use lib.Seq.{ext-getD, take-suc, take-all}
 use lib.Count.{ones}
 use Rattle.row.specs.Bit.{total, Words}
 use Rattle.row.specs.own.Bit.{Part}
 use Rattle.row.specs.laws.Bit.{word-ext, ones-part}
-
--- one word changed
-pub total-set : (s : List ℕ) (i v : ℕ) → i < length s → total (set s i v) + ones (getD s i 0) ≡ total s + ones v
-total-set [] i v h = absurd (not-suc-le-zero h)
-total-set (w ∷ ws) zero v h = omega arith
-total-set (w ∷ ws) (suc i) v h = omega (arith, total-set ws i v (le-of-suc-le-suc h))
 
 -- fewer bits, a smaller number
 pub total-part : (w : ℕ) (s t : List ℕ) → length s ≡ length t → Words w s → Part s t → total s ≤ total t

@@ -1,38 +1,16 @@
 -- Laws of a rule's tree: a child comes after its parent, so the expression at a node is the same at every depth that covers the nodes left. Assumes nothing.
-use mathlib.Core.Path.{_≡_, refl, ap, subst}
+use mathlib.Core.Path.{_≡_, refl, ap}
 use mathlib.Core.List.{List}
 use Prim.Native.Nat.{ℕ, zero, suc, _+_, _-_, _≤_, _<_}
 use native.Mathlib.Numerals.{sub-one}
 use native.Mathlib.Omega.{arith}
-use Rattle.store.specs.declared.Item.{Item}
-use Rattle.rule.specs.declared.Head.the-variants.{Sub, In}
 use Rattle.rule.specs.declared.Node.{Node}
 use Rattle.rule.specs.declared.Node.the-variants.{Name, Top, Not, And, AtLeast, SelfOf, One}
-use Rattle.rule.specs.declared.RoleUse.{RoleUse}
 use Rattle.rule.specs.declared.Rule.{Rule}
 use Rattle.rule.specs.declared.Slot.{Slot}
-use Rattle.rule.specs.Form.{nodeAt, nodeLimit, HeadFits, UsesLater, WellFormed}
+use Rattle.rule.specs.Form.{nodeAt, nodeLimit, UsesLater, WellFormed}
 use Rattle.rule.specs.Expr.{Expr, build, exprAt, exprOf}
 use Rattle.rule.specs.Expr.Expr.{top, neg, many}
-
--- ---- children come later and are there
-
-pub child-not : {u : Rule} → WellFormed u → {i a : ℕ} → i < u .len → nodeAt (u .nodes) i ≡ Not a → (i < a) × (a < u .len)
-child-not {u} w {i} l e = subst (UsesLater (u .len) i) e (w .later i l)
-
-pub child-and : {u : Rule} → WellFormed u → {i a b : ℕ} → i < u .len → nodeAt (u .nodes) i ≡ And a b → (i < a) × (a < u .len) × (i < b) × (b < u .len)
-child-and {u} w {i} l e = subst (UsesLater (u .len) i) e (w .later i l)
-
-pub child-least : {u : Rule} → WellFormed u → {i n a : ℕ} {r : RoleUse} → i < u .len → nodeAt (u .nodes) i ≡ AtLeast n r a → (i < a) × (a < u .len)
-child-least {u} w {i} l e = subst (UsesLater (u .len) i) e (w .later i l)
-
--- ---- roots are there
-
-pub root-sub : {u : Rule} → WellFormed u → {a b : ℕ} → u .head ≡ Sub a b → (a < u .len) × (b < u .len)
-root-sub {u} w e = subst (HeadFits (u .len)) e (w .head)
-
-pub root-in : {u : Rule} → WellFormed u → {a : ℕ} {i : Item} → u .head ≡ In a i → a < u .len
-root-in {u} w e = subst (HeadFits (u .len)) e (w .head)
 
 -- ---- the expression at a node, a step down
 
@@ -72,10 +50,3 @@ depth-free u w (suc k) (suc m) i l hk hm =
 -- the rule's depth is one of them
 pub depth-rule : (u : Rule) → WellFormed u → (k i : ℕ) → i < u .len → u .len ≤ i + k → exprAt k (u .nodes) i ≡ exprOf (u .nodes) i
 depth-rule u w k i l hk = depth-free u w k nodeLimit i l hk (omega (arith, w .short))
-
--- the expression at a node of a well-formed rule is built of those at its children
-pub exprOf-step : (u : Rule) → WellFormed u → (i : ℕ) → i < u .len → exprOf (u .nodes) i ≡ build (exprOf (u .nodes)) (nodeAt (u .nodes) i)
-unfolding exprAt
-exprOf-step u w i l =
-    build-same (exprAt (nodeLimit - 1) (u .nodes)) (exprOf (u .nodes)) (u .len) i (nodeAt (u .nodes) i) (w .later i l)
-    (λ a la lb. depth-rule u w (nodeLimit - 1) a lb (omega (arith, w .short)))

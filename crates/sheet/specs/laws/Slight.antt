@@ -1,5 +1,5 @@
 -- What an accepted sheet said is slight: its items have short names, its rules are few and stand in lines with low numbers. Assumes nothing.
-use mathlib.Core.Path.{_≡_, refl, sym, ap, subst}
+use mathlib.Core.Path.{_≡_, refl, ap, subst}
 use mathlib.Core.Bool.{Bool, true, false, cond}
 use mathlib.Core.List.{List, [], _∷_, _++_, map, map-append}
 use Prim.Native.Nat.{ℕ, zero, suc, _+_, _≤_}
@@ -18,7 +18,7 @@ use Rattle.field.specs.Words.{at, Field, bodyOf, formOf}
 use Rattle.field.specs.laws.Right.{item-new, right-first}
 use Rattle.line.specs.Fault.{lineFault, none, ruleLimit, sheetLimit}
 use Rattle.line.specs.laws.Accepted.{Accepted, line-accepted}
-use Rattle.sheet.specs.Said.{Outcome, Said, SheetRule, lineSaid, marksOf, nothing, outcome, outcomeFrom, saying}
+use Rattle.sheet.specs.Said.{Said, SheetRule, lineSaid, marksOf, nothing, outcome, outcomeFrom, saying}
 use Rattle.sheet.specs.Said.Outcome.{accepted}
 use Rattle.sheet.specs.laws.Pass.{accepted-start, accepted-step, saidOf}
 

@@ -162,7 +162,3 @@ module _ {n : Counts} {x : Said} {s : List ℕ} {k a : ℕ} where
 -- the item of a broken rule is in its left concept
 pub broken-in : {n : Counts} {x : Said} {s : List ℕ} {k a c d : ℕ} → BrokenSub n x s k a c d → Holds width n s (In a c)
 broken-in {n} {x} {s} {k} {a} z = sub-broken {n = n} {x = x} {s = s} {k = k} {a = a} (z .there) (z .names) (z .broken) .0
-
--- and not in its right one
-pub broken-out : {n : Counts} {x : Said} {s : List ℕ} {k a c d : ℕ} → BrokenSub n x s k a c d → ¬ (Holds width n s (In a d))
-broken-out {n} {x} {s} {k} {a} z = sub-broken {n = n} {x = x} {s = s} {k = k} {a = a} (z .there) (z .names) (z .broken) .1
