@@ -4,6 +4,7 @@ pub mod Reflexive
 pub mod Turn
 pub mod Parts
 pub mod Cells
+pub mod Keeps
 pub mod Laid
 pub mod Look
 pub mod Halves

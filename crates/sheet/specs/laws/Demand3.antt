@@ -4,16 +4,14 @@ use mathlib.Core.Bool.{Bool, true}
 use mathlib.Core.List.{List}
 use Prim.Native.Nat.{ℕ, suc}
 use lib.ListN.{length}
-use Rattle.logic.specs.Number.{One}
 use Rattle.row.specs.Bit.{Words}
 use Rattle.store.specs.declared.Counts.{Counts}
-use Rattle.store.specs.declared.Statement.{Statement}
-use Rattle.store.specs.Cell.{Cell}
 use Rattle.store.specs.Layout.{size, width}
 use Rattle.closure.specs.Lines.{Stated}
-use Rattle.closure.specs.Lines.Stated.{stated}
+use Rattle.closure.specs.laws.Demand3.{stated-move}
 use Rattle.store.specs.Keeps.{Keeps}
 use Rattle.store.specs.laws.Cells.{keeps-unique}
+use Rattle.store.specs.laws.Keeps.{keeps-iff}
 use Rattle.sheet.specs.declared.Reading.{Reading}
 use Rattle.sheet.specs.Demand3.{SameStatements, SheetDemand3}
 use Rattle.line.specs.Fault.{begun}
@@ -22,17 +20,12 @@ use Rattle.sheet.specs.Promise.{Held, Leaves, Reads, Stopped}
 use Rattle.sheet.specs.Promise.Reads.{wrong-size, refused as refusedRead, accepted as acceptedRead}
 use Rattle.sheet.specs.Said.{Outcome, Said, marksOf, outcome, statementsOf}
 use Rattle.sheet.specs.Said.Outcome.{accepted, refused}
-use Rattle.sheet.specs.laws.Stands.{keeps-iff}
 
 -- what reading leaves is what the outcome leaves
 reads-leaves : {sheet s t : List ℕ} {r : Reading} {o : Outcome} → length s ≡ size width → outcome sheet ≡ o → Reads sheet s t r → Leaves o s t
 reads-leaves l e (wrong-size z q) = absurd (z l)
 reads-leaves {s = s} {t = t} l e (refusedRead h i p) = subst (λ (o : Outcome). Leaves o s t) (sym i ∙ e) p
 reads-leaves {s = s} {t = t} l e (acceptedRead h i p a) = subst (λ (o : Outcome). Leaves o s t) (sym i ∙ e) p
-
--- statements in another order state the same cells
-stated-move : {xs ys : List Statement} → ((x : Statement) → One x xs → One x ys) → (c : Cell) → Stated xs c → Stated ys c
-stated-move f c (stated {x = x} o) = stated (f x o)
 
 held-same : (x y : Said) {t v : List ℕ} → Words 64 t → Words 64 v → countsOf (x .names) ≡ countsOf (y .names) → SameStatements x y → Held x t → Held y v → t ≡ v
 held-same x y {v = v} w u e same a b =

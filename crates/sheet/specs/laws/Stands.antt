@@ -16,8 +16,7 @@ use Rattle.logic.specs.laws.Number.{one-none}
 use Rattle.closure.specs.declared.Answer.{Answer}
 use Rattle.store.specs.declared.Counts.{Counts}
 use Rattle.store.specs.declared.Statement.{Statement}
-use Rattle.store.specs.Cell.{Cell, Follows, Nothing, With, cellOf}
-use Rattle.store.specs.Cell.Follows.{given}
+use Rattle.store.specs.Cell.{Cell, Nothing, With, cellOf}
 use Rattle.store.specs.Cell.With.{old, new}
 use Rattle.store.specs.Layout.{Holds, conceptLimit, itemLimit, roleLimit, width, Sized}
 use Rattle.closure.specs.Lines.{Stated}
@@ -27,7 +26,7 @@ use Rattle.closure.specs.Promise.{Makes}
 use Rattle.closure.specs.Promise.Makes.{refused as make-refused, made}
 use Rattle.closure.specs.Refusal.{FreshFault}
 use Rattle.closure.specs.Refusal.FreshFault.{wrong-size}
-use Rattle.store.specs.laws.Least.{follows-all}
+use Rattle.store.specs.laws.Keeps.{keeps-iff, keeps-step}
 use Rattle.field.specs.declared.Form.the-variants as form
 use Rattle.line.specs.declared.Marks.{Marks}
 use Rattle.field.specs.declared.RuleWord.{RuleWord}
@@ -52,10 +51,6 @@ makes-keeps {n} {s} z (make-refused l e) = absurd (no-fault (l .applies))
   where
     no-fault : {k : ℕ} → FreshFault width n s k → ⊥
     no-fault (wrong-size f) = f z
-
--- the same cells given under another name
-pub keeps-iff : {n : Counts} {G H : Cell → Type 0} {s : List ℕ} → ((c : Cell) → G c → H c) → ((c : Cell) → H c → G c) → Keeps width n G s → Keeps width n H s
-keeps-iff f g k = record { store = k .store; sound = λ c h. follows-all (λ d x. given (f d x)) (k .sound c h); whole = λ c h. k .whole c (follows-all (λ d x. given (g d x)) h) }
 
 -- a fresh store holds what follows from no statement
 pub keeps-none : {n : Counts} {s : List ℕ} → Keeps width n Nothing s → Keeps width n (Stated []) s
@@ -83,26 +78,19 @@ one-split (z ∷ xs) (later o) = push (one-split xs o)
     push (inr e) = inr e
 
 -- one statement more
-pub keeps-more : {n : Counts} {xs : List Statement} {s t : List ℕ} (x : Statement) → Keeps width n (Stated xs) s → Keeps width n (With (Holds width n s) (cellOf x)) t → Keeps width n (Stated (xs ++ x ∷ [])) t
-keeps-more {n} {xs} {s} x k l = record {
-  store = l .store;
-  sound = λ c h. follows-all from (l .sound c h);
-  whole = λ c h. l .whole c (follows-all to h);
-}
+keeps-more : {n : Counts} {xs : List Statement} {s t : List ℕ} (x : Statement) → Keeps width n (Stated xs) s → Keeps width n (With (Holds width n s) (cellOf x)) t → Keeps width n (Stated (xs ++ x ∷ [])) t
+keeps-more {n} {xs} {s} x k l = keeps-iff to from (keeps-step k l)
   where
-    weaken : (c : Cell) → Stated xs c → Follows n (Stated (xs ++ x ∷ [])) c
-    weaken c (stated o) = given (stated (one-before x o))
+    to : (c : Cell) → With (Stated xs) (cellOf x) c → Stated (xs ++ x ∷ []) c
+    to c (old (stated o)) = stated (one-before x o)
+    to c new = stated (one-last x xs)
 
-    from : (c : Cell) → With (Holds width n s) (cellOf x) c → Follows n (Stated (xs ++ x ∷ [])) c
-    from c (old h) = follows-all weaken (k .sound c h)
-    from c new = given (stated (one-last x xs))
+    from-line : {y : Statement} → One y xs ⊎ (y ≡ x) → With (Stated xs) (cellOf x) (cellOf y)
+    from-line (inl o) = old (stated o)
+    from-line (inr e) = subst (λ (y : Statement). With (Stated xs) (cellOf x) (cellOf y)) (sym e) new
 
-    to-line : {y : Statement} → One y xs ⊎ (y ≡ x) → Follows n (With (Holds width n s) (cellOf x)) (cellOf y)
-    to-line (inl o) = given (old (k .whole _ (given (stated o))))
-    to-line (inr e) = subst (λ (y : Statement). Follows n (With (Holds width n s) (cellOf x)) (cellOf y)) (sym e) (given new)
-
-    to : (c : Cell) → Stated (xs ++ x ∷ []) c → Follows n (With (Holds width n s) (cellOf x)) c
-    to c (stated o) = to-line (one-split xs o)
+    from : (c : Cell) → Stated (xs ++ x ∷ []) c → With (Stated xs) (cellOf x) c
+    from c (stated o) = from-line (one-split xs o)
 
 -- begun before, or made fresh now
 pub begins-same : (b : Bool) (n : Counts) (s : List ℕ) → b ≡ true → Begins b n s s
