@@ -9,5 +9,6 @@ pub mod Few
 pub mod Slight
 pub mod Count
 pub mod Unique
+pub mod Order
 pub mod Demand3
 pub mod Readings

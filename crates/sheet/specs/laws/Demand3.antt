@@ -1,25 +1,31 @@
 -- Demand 3 holds of sheets, as their statements go through the store's promise. Assumes nothing.
-use mathlib.Core.Path.{_≡_, sym, _∙_, subst}
+use mathlib.Core.Path.{_≡_, refl, sym, ap, ap₂, _∙_, subst}
 use mathlib.Core.Bool.{Bool, true}
 use mathlib.Core.List.{List}
-use Prim.Native.Nat.{ℕ, suc}
+use Prim.Native.Nat.{ℕ, suc, _≤_}
 use lib.ListN.{length}
 use Rattle.row.specs.Bit.{Words}
 use Rattle.store.specs.declared.Counts.{Counts}
-use Rattle.store.specs.Layout.{size, width}
+use Rattle.store.specs.Layout.{Holds, size, width}
 use Rattle.closure.specs.Lines.{Stated}
 use Rattle.closure.specs.laws.Demand3.{stated-move}
 use Rattle.store.specs.Keeps.{Keeps}
 use Rattle.store.specs.laws.Cells.{keeps-unique}
 use Rattle.store.specs.laws.Keeps.{keeps-iff}
+use Rattle.rule.specs.declared.Finding.{Finding}
 use Rattle.sheet.specs.declared.Reading.{Reading}
-use Rattle.sheet.specs.Demand3.{SameStatements, SheetDemand3}
-use Rattle.line.specs.Fault.{begun}
-use Rattle.field.specs.Names.{countsOf}
-use Rattle.sheet.specs.Promise.{Held, Leaves, Reads, Stopped}
+use Rattle.sheet.specs.declared.Reading.the-variants as reading
+use Rattle.line.specs.declared.Marks.{Marks}
+use Rattle.sheet.specs.Demand3.{Rearranged, SameStatements, SheetDemand3}
+use Rattle.line.specs.Fault.{begun, sheetLimit}
+use Rattle.field.specs.Names.{Names, countsOf}
+use Rattle.sheet.specs.Promise.{FindingsFrom, FindingsIn, Held, Leaves, Reads, Stopped}
 use Rattle.sheet.specs.Promise.Reads.{wrong-size, refused as refusedRead, accepted as acceptedRead}
 use Rattle.sheet.specs.Said.{Outcome, Said, marksOf, outcome, statementsOf}
 use Rattle.sheet.specs.Said.Outcome.{accepted, refused}
+use Rattle.sheet.specs.laws.Order.{findings-same, rearranged, same-marks}
+use Rattle.sheet.specs.laws.Pass.{not-both, saidOf}
+use Rattle.sheet.specs.laws.Unique.{from-unique}
 
 -- what reading leaves is what the outcome leaves
 reads-leaves : {sheet s t : List ℕ} {r : Reading} {o : Outcome} → length s ≡ size width → outcome sheet ≡ o → Reads sheet s t r → Leaves o s t
@@ -39,5 +45,34 @@ any-order {x = x} {y = y} w h l m e f c same r q = held-same x y w h c same (rea
 unchanged : {sheet s t : List ℕ} {x : Said} {r : Reading} {line k : ℕ} → length s ≡ size width → outcome sheet ≡ refused (suc line) k x → begun (marksOf x) ≡ true → Reads sheet s t r → Held x t
 unchanged {t = t} {x = x} l e b r = subst (λ (z : Bool). Stopped z x t) b (reads-leaves l e r)
 
+-- the store and the findings of an accepted sheet, and its answer
+reads-found : {sheet s t : List ℕ} {x : Said} {r : Reading} → length s ≡ size width → outcome sheet ≡ accepted x → Reads sheet s t r
+    → (fs : List Finding) × Held x t × FindingsIn x t fs × (r ≡ reading.Accepted (countsOf (x .names)) (length (x .rules)) (length fs))
+reads-found l e (wrong-size z q) = absurd (z l)
+reads-found l e (refusedRead h i p) = absurd (not-both (sym i ∙ e))
+reads-found {t = t} l e (acceptedRead {x = y} {fs = fs} h i p a) =
+    subst (λ (z : Said). (gs : List Finding) × Held z t × FindingsIn z t gs × (reading.Accepted (countsOf (y .names)) (length (y .rules)) (length fs) ≡ reading.Accepted (countsOf (z .names)) (length (z .rules)) (length gs))) (ap saidOf (sym i ∙ e))
+    (fs, p, a, refl)
+
+-- statement lines in another order, or said again, leave the same store and give the same answer
+rearranged-reads : {sheet other s u t v : List ℕ} {x : Said} {r q : Reading} → Words 64 t → Words 64 v → length s ≡ size width → length u ≡ size width → Rearranged sheet other
+    → length other ≤ sheetLimit → outcome sheet ≡ accepted x → Reads sheet s t r → Reads other u v q → (t ≡ v) × (r ≡ q)
+rearranged-reads {t = t} {v = v} {x = x} w h l m a b e r q =
+    let z = rearranged a b e in
+    let y = z .0 in
+    let same = z .2 in
+    let f = reads-found l e r in
+    let g = reads-found m (z .1) q in
+    let store : t ≡ v = held-same x y w h (ap countsOf (same .names)) (same .statements) (f .1) (g .1) in
+    let ruled = findings-same (y .rules) (x .rules) (sym (same .rules)) (g .2) in
+    let named = subst (λ (n : Names). FindingsFrom (Holds width (countsOf n) v) (countsOf n) 0 (x .rules) (g .0)) (sym (same .names)) ruled in
+    let found : f .0 ≡ g .0 = from-unique (f .2) (subst (λ (c : List ℕ). FindingsIn x c (g .0)) (sym store) named) in (
+      store,
+      f .3
+          ∙ ap₂ {C = Reading} (λ (n : Names) (fs : List Finding). reading.Accepted (countsOf n) (length (x .rules)) (length fs)) (same .names) found
+          ∙ ap (λ (k : Marks). reading.Accepted (countsOf (y .names)) (k .rules) (length (g .0))) (same-marks x y same)
+          ∙ sym (g .3),
+    )
+
 pub sheet-demand-3 : SheetDemand3
-sheet-demand-3 = record { holds = λ l e r. reads-leaves l e r; any-order = any-order; unchanged = unchanged }
+sheet-demand-3 = record { holds = λ l e r. reads-leaves l e r; any-order = any-order; rearranged = rearranged; rearranged-reads = rearranged-reads; unchanged = unchanged }

@@ -9,7 +9,7 @@ use lib.Dec.{eqb, leb}
 use lib.ListN.{length}
 use Rattle.text.specs.own.Split.{partOf, endOf, partsFrom}
 use Rattle.text.specs.Bytes.{same}
-use Rattle.text.specs.Split.{fields, split}
+use Rattle.text.specs.Split.{fields, lines, split}
 use Rattle.text.specs.laws.Split.{end-ge, end-le, parts-all, parts-next, parts-none}
 use Rattle.field.specs.declared.Form.{Form}
 use Rattle.field.specs.declared.Form.the-variants as form
@@ -49,22 +49,21 @@ accepted-step k s x l ls e = go (eqb (lineFault (s .names) (marksOf s) l) 0) ref
     go true q h = (eqb-true _ _ q, h)
     go false q h = let z : _≡_ {A = ℕ} 0 1 = cc in absurd (omega arith)
 
--- an accepted sheet is not too long, and the lines after its first are accepted
-pub accepted-start : (sheet : List ℕ) (x : Said) → outcome sheet ≡ accepted x → (length sheet ≤ sheetLimit) × (outcomeFrom 2 nothing (partsFrom 10 sheet (endOf 10 sheet 0 + 1)) ≡ accepted x)
+-- an accepted sheet is not too long, its first line is the header, and the lines after it are accepted
+pub accepted-lines : (sheet l : List ℕ) (ls : List (List ℕ)) (x : Said) → lines sheet ≡ l ∷ ls → outcome sheet ≡ accepted x → (length sheet ≤ sheetLimit) × (headerFault l ≡ 0) × (outcomeFrom 2 nothing ls ≡ accepted x)
 unfolding outcome
-accepted-start sheet x e = go (leb (length sheet) sheetLimit) refl e
+accepted-lines sheet l ls x are e = go (leb (length sheet) sheetLimit) refl e
   where
-    parted : split 10 sheet ≡ partOf sheet 0 (endOf 10 sheet 0 - 0) ∷ partsFrom 10 sheet (endOf 10 sheet 0 + 1)
-    parted = sym (parts-all 10 sheet) ∙ parts-next 10 sheet 0 zero-le
+    header : (t : Bool) → eqb (headerFault l) 0 ≡ t → cond t (outcomeFrom 2 nothing ls) (refused 1 (headerFault l) nothing) ≡ accepted x → (headerFault l ≡ 0) × (outcomeFrom 2 nothing ls ≡ accepted x)
+    header true q h = (eqb-true _ _ q, h)
+    header false q h = let z : _≡_ {A = ℕ} 0 1 = cc in absurd (omega arith)
 
-    header : (l : List ℕ) (ls : List (List ℕ)) (t : Bool) → eqb (headerFault l) 0 ≡ t → cond t (outcomeFrom 2 nothing ls) (refused 1 (headerFault l) nothing) ≡ accepted x → outcomeFrom 2 nothing ls ≡ accepted x
-    header l ls true q h = h
-    header l ls false q h = let z : _≡_ {A = ℕ} 0 1 = cc in absurd (omega arith)
-
-    go : (t : Bool) → leb (length sheet) sheetLimit ≡ t → cond t (outcomeOf (split 10 sheet)) (refused 0 9 nothing) ≡ accepted x
-        → (length sheet ≤ sheetLimit) × (outcomeFrom 2 nothing (partsFrom 10 sheet (endOf 10 sheet 0 + 1)) ≡ accepted x)
-    go true q h = (leb-true _ _ q, header (partOf sheet 0 (endOf 10 sheet 0 - 0)) _ _ refl (rw parted at h))
+    go : (t : Bool) → leb (length sheet) sheetLimit ≡ t → cond t (outcomeOf (lines sheet)) (refused 0 9 nothing) ≡ accepted x → (length sheet ≤ sheetLimit) × (headerFault l ≡ 0) × (outcomeFrom 2 nothing ls ≡ accepted x)
+    go true q h = let a = header _ refl (rw are at h) in (leb-true _ _ q, a .0, a .1)
     go false q h = let z : _≡_ {A = ℕ} 0 1 = cc in absurd (omega arith)
+
+pub accepted-start : (sheet : List ℕ) (x : Said) → outcome sheet ≡ accepted x → (length sheet ≤ sheetLimit) × (outcomeFrom 2 nothing (partsFrom 10 sheet (endOf 10 sheet 0 + 1)) ≡ accepted x)
+accepted-start sheet x e = let a = accepted-lines sheet _ _ x (sym (parts-all 10 sheet) ∙ parts-next 10 sheet 0 zero-le) e in (a .0, a .2)
 
 -- ---- one line
 

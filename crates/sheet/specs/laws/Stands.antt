@@ -36,7 +36,7 @@ use Rattle.line.specs.Fault.{begun, none, ruleLimit}
 use Rattle.field.specs.Names.{countsOf}
 use Rattle.sheet.specs.Promise.{Stopped}
 use Rattle.field.specs.Words.{at, Field}
-use Rattle.sheet.specs.Said.{Said, SheetStatement, saying, statementsOf}
+use Rattle.sheet.specs.Said.{Said, saying, statementsOf}
 use Rattle.saying.specs.Read.{statementOf}
 use Rattle.sheet.specs.own.Stands.{Begins, Stands}
 use Rattle.field.specs.own.Table.{Roomy, entered, nameAt, namesOf, withConcept, withItem, withRole, Places}
@@ -59,15 +59,15 @@ keeps-none k = keeps-iff (λ c x. absurd x) none-stated k
     none-stated : (c : Cell) → Stated [] c → Nothing c
     none-stated c (stated o) = one-none o
 
-one-before : {A : Type 0} {x : A} {xs : List A} (y : A) → One x xs → One x (xs ++ y ∷ [])
+pub one-before : {A : Type 0} {x : A} {xs : List A} (y : A) → One x xs → One x (xs ++ y ∷ [])
 one-before y first = first
 one-before y (later o) = later (one-before y o)
 
-one-last : {A : Type 0} (y : A) (xs : List A) → One y (xs ++ y ∷ [])
+pub one-last : {A : Type 0} (y : A) (xs : List A) → One y (xs ++ y ∷ [])
 one-last y [] = first
 one-last y (x ∷ xs) = later (one-last y xs)
 
-one-split : {A : Type 0} {x y : A} (xs : List A) → One x (xs ++ y ∷ []) → One x xs ⊎ (x ≡ y)
+pub one-split : {A : Type 0} {x y : A} (xs : List A) → One x (xs ++ y ∷ []) → One x xs ⊎ (x ≡ y)
 one-split [] first = inr refl
 one-split [] (later o) = absurd (one-none o)
 one-split (z ∷ xs) first = inl first
@@ -101,6 +101,11 @@ pub begins-fresh : (b : Bool) (n : Counts) (s t : List ℕ) → b ≡ false → 
 begins-fresh true n s t e k = absurd (true≢false e)
 begins-fresh false n s t e k = k
 
+-- one more at the end
+pub map-last : {A B : Type 0} (f : A → B) (xs : List A) (y : A) → map f (xs ++ y ∷ []) ≡ map f xs ++ f y ∷ []
+map-last f [] y = refl
+map-last f (x ∷ xs) y = ap (_∷_ (f x)) (map-last f xs y)
+
 -- ---- tables
 
 -- the names are as many as the table counts
@@ -112,19 +117,9 @@ counts-of sheet t p r =
       entered-length sheet (t .counts .roles) (t .roles) (omega (arith, p .roles, r .roles)),
     )
 
-map-last : (sheet : List ℕ) (ps : List ℕ) (p : ℕ) → map (nameAt sheet) (ps ++ p ∷ []) ≡ map (nameAt sheet) ps ++ nameAt sheet p ∷ []
-map-last sheet [] p = refl
-map-last sheet (q ∷ ps) p = rw (map-last sheet ps p)
-
 -- one entry more is one name more
 entered-more : (sheet : List ℕ) (n : ℕ) (entries : List ℕ) (p : ℕ) → n < length entries → entered sheet (n + 1) (set entries n p) ≡ entered sheet n entries ++ nameAt sheet p ∷ []
-entered-more sheet n entries p h = rw (add-one, take-suc-set entries n p h) (map-last sheet (take n entries) p)
-
--- ---- the statements without their lines
-
-pub statements-more : (ls : List SheetStatement) (l : SheetStatement) → statementsOf (ls ++ l ∷ []) ≡ statementsOf ls ++ l .statement ∷ []
-statements-more [] l = refl
-statements-more (k ∷ ls) l = ap (_∷_ (k .statement)) (statements-more ls l)
+entered-more sheet n entries p h = rw (add-one, take-suc-set entries n p h) (map-last (nameAt sheet) (take n entries) p)
 
 -- ---- what stands for what was said, after one line more
 
@@ -172,7 +167,7 @@ module _ {sheet : List ℕ} {t : Table} {m : Marks} {s : List ℕ} {x : Said} (p
         room = st .room;
         few = st .few;
         long = kept .store .long;
-        store = rw (counted, st .names, statements-more) (keeps-more (statementOf (namesOf sheet t) w fs) (begun-keeps b) kept);
+        store = rw (counted, st .names, map-last) (keeps-more (statementOf (namesOf sheet t) w fs) (begun-keeps b) kept);
       }
 
   pub stands-rule : (k : ℕ) (w : RuleWord) (fs : List Field) {s1 : List ℕ} → m .rules < ruleLimit → Begins (begun m) (t .counts) s s1
