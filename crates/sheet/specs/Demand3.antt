@@ -39,7 +39,7 @@ pub data Stating : List ℕ → Type 0 where
   empty : Stating []
   statement : {l : List ℕ} {w : StatementWord} → formOf (fields l) ≡ form.Statement w → Stating l
 
--- Two sheets that differ only in their statement lines: these stand in another order, or are said again.
+-- Two sheets with the same lines but for a stretch of statement lines: there each has the lines of the other, in another order or said again.
 pub record Rearranged (sheet other : List ℕ) : Type 0 where
   pub first : List ℕ
   pub front : List (List ℕ)

@@ -1,6 +1,7 @@
 ghost use mathlib.Core.Path.{_≡_};
 ghost use Prim.Native.Nat.{_≤_};
 ghost use lib.ListN.{length};
+ghost use Rattle.row.specs.own.Change.{Zeroed};
 ghost use Rattle.text.specs.own.Split.{partsFrom};
 ghost use Rattle.line.specs.Fault.{sheetLimit};
 ghost use Rattle.store.specs.Layout.{size, width};
@@ -52,13 +53,20 @@ fn blank() -> Kept
     Kept { table, marks }
 }
 
+// Nothing is said yet: the lent words are all 0, and nothing is kept.
+fn clear(words: &mut [u64]) -> Kept
+    ensures { λ r. ⌜ Blank r × Zeroed (now (words .entry)) (now (words .exit)) ⌝ }
+{
+    rewrite::change::zero_all(words);
+    blank()
+}
+
 // Reads the lines of a sheet that is not too long, up to the end or to the first faulty line.
 fn read_all(sheet: &[u8], words: &mut [u64]) -> Ended
     requires { ⌜ (length (now sheet) ≤ sheetLimit) × (length (now words) ≡ size width) ⌝ }
     ensures { λ r. ⌜ Ends (now (sheet .entry)) (outcome (now (sheet .entry))) (now (words .exit)) r ⌝ }
 {
-    rewrite::change::zero_all(words);
-    let kept = blank();
+    let kept = clear(words);
     let end = text::part::end_of(sheet, 0, 10);
     let why = line::lines::header_fault(text::part::part(sheet, 0, end));
     if why == 0 {
