@@ -79,6 +79,8 @@ read (suc left) n fs = byWord n (read left n) (operatorOf (at 0 fs)) (at 0 fs) (
 abbrev pub readExpr : Names → List Field → Read
 readExpr n fs = read (length fs) n fs
 
+-- ---- how a rule is laid out as nodes. From here to `ruleOf` no belief is needed: the rule of an accepted line means what its fields mean (Meant.antt; proved in laws/Meant.antt, rule-meant)
+
 -- how many nodes an expression has
 unfoldable pub size : Expr → ℕ
 size (name c) = 1

@@ -8,3 +8,4 @@ pub mod Rules
 pub mod Within
 pub mod Formed
 pub mod Judged
+pub mod Meant

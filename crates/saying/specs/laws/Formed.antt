@@ -48,6 +48,18 @@ module _ (P : ℕ → Node → Type 0) where
   each-at i zero (x ∷ xs) a h = let z : i + 0 ≡ i = omega arith in rw z (a .0)
   each-at i (suc j) (x ∷ xs) a h = let z : i + suc j ≡ i + 1 + j = omega arith in rw z (each-at (i + 1) j xs (a .1) (omega arith))
 
+  pub each-parts : (i k : ℕ) (xs ys : List Node) → k ≡ i + length xs → Each P i (xs ++ ys) → Each P i xs × Each P k ys
+  unfolding Each
+  each-parts i k [] ys e a = let z : k ≡ i = omega arith in (tt, rw z a)
+  each-parts i k (x ∷ xs) ys e a = let r = each-parts (i + 1) k xs ys (omega arith) (a .1) in ((a .0, r .0), r .1)
+
+  pub each-all : (i : ℕ) (xs : List Node) → ((j : ℕ) → j < length xs → P (i + j) (getD xs j none)) → Each P i xs
+  unfolding Each
+  each-all i [] a = tt
+  each-all i (x ∷ xs) a =
+      let z : i + 0 ≡ i = omega arith in
+      (rw z at (a 0 (omega arith)), each-all (i + 1) xs (λ j l. let y : i + suc j ≡ i + 1 + j = omega arith in rw y at (a (suc j) (omega arith))))
+
 -- each node uses later ones
 pub later-each : (L i : ℕ) (e : Expr) → i + size e ≤ L → Each (UsesLater L) i (nodesAt i e)
 unfolding Each nodesAt size
