@@ -1,13 +1,15 @@
 -- The rule that a line says means what the line's fields mean: its nodes, read back, are the expressions that were read. Assumes nothing.
-use mathlib.Core.Path.{_≡_, refl, sym, ap}
+use mathlib.Core.Path.{_≡_, refl, sym, ap, ap₂}
 use mathlib.Core.Bool.{true, true≢false}
 use mathlib.Core.List.{List, [], _∷_, _++_}
 use Prim.Native.Nat.{ℕ, zero, suc, _+_, _≤_, max, min}
 use native.Mathlib.Omega.{arith}
 use lib.ListN.{length, length-append}
+use Rattle.store.specs.declared.Item.{Item}
+use Rattle.rule.specs.declared.Head.the-variants as head
 use Rattle.rule.specs.declared.Node.{Node}
 use Rattle.rule.specs.declared.Slot.{Slot}
-use Rattle.rule.specs.Expr.{Expr, exprAt, exprOf}
+use Rattle.rule.specs.Expr.{Expr, exprAt}
 use Rattle.rule.specs.Expr.Expr.{both, many, name, neg, one, own, top}
 use Rattle.rule.specs.Form.{nodeAt, nodeLimit}
 use Rattle.field.specs.declared.Due.the-variants as due
@@ -15,9 +17,10 @@ use Rattle.field.specs.declared.RuleWord.{RuleWord}
 use Rattle.field.specs.declared.RuleWord.the-variants as rule
 use Rattle.field.specs.Due.{chainLongest, chainShortest, dues, fits, ruleLineup}
 use Rattle.field.specs.Names.{Names, nodesIn}
-use Rattle.field.specs.Words.{Field}
-use Rattle.saying.specs.Read.{laid, nodesAt, readExpr, ruleOf, size}
+use Rattle.field.specs.Words.{Field, at}
+use Rattle.saying.specs.Read.{itemOf, laid, nodesAt, readExpr, ruleOf, size, withOne, withTwo}
 use Rattle.saying.specs.Meant.{meaningOf, meantBy}
+use Rattle.saying.specs.Meant.Meant.{isin, sub}
 use Rattle.saying.specs.laws.Formed.{Each, each-all, each-parts, laid-node}
 use Rattle.saying.specs.laws.Nodes.{nodes-length}
 use Rattle.saying.specs.laws.Parse.{size-some}
@@ -46,17 +49,18 @@ module _ (ns : List Slot) where
 laid-stand : (xs : List Node) → length xs ≤ nodeLimit → Each (Stands (laid xs)) 0 xs
 laid-stand xs h = each-all (Stands (laid xs)) 0 xs (λ j l. let z : 0 + j ≡ j = omega arith in rw z (laid-node xs j h l))
 
--- one expression, and two one after the other
-laid-one : (c : Expr) → size c ≤ nodeLimit → exprOf (laid (nodesAt 0 c)) 0 ≡ c
-laid-one c h = read-back (laid (nodesAt 0 c)) nodeLimit 0 c h (laid-stand (nodesAt 0 c) (omega (arith, nodes-length 0 c)))
+-- a rule with one expression, and with two
+one-meant : (a : Item) (c : Expr) → size c ≤ nodeLimit → meaningOf (withOne (λ r. head.In r a) c) ≡ isin c a
+one-meant a c h =
+    let ns = laid (nodesAt 0 c) in
+    ap (λ (e : Expr). isin e a) (read-back ns nodeLimit 0 c h (laid-stand (nodesAt 0 c) (omega (arith, nodes-length 0 c))))
 
-laid-two : (c d : Expr) → size c + size d ≤ nodeLimit
-    → (exprOf (laid (nodesAt 0 c ++ nodesAt (size c) d)) 0 ≡ c) × (exprOf (laid (nodesAt 0 c ++ nodesAt (size c) d)) (size c) ≡ d)
-laid-two c d h =
+two-meant : (c d : Expr) → size c + size d ≤ nodeLimit → meaningOf (withTwo head.Sub c d) ≡ sub c d
+two-meant c d h =
     let ns = laid (nodesAt 0 c ++ nodesAt (size c) d) in
     let l : length (nodesAt 0 c ++ nodesAt (size c) d) ≡ size c + size d = rw (length-append, nodes-length, nodes-length) in
     let p = each-parts (Stands ns) 0 (size c) (nodesAt 0 c) (nodesAt (size c) d) (omega (arith, nodes-length 0 c)) (laid-stand (nodesAt 0 c ++ nodesAt (size c) d) (omega arith)) in
-    (read-back ns nodeLimit 0 c (omega arith) (p .0), read-back ns nodeLimit (size c) d (omega arith) (p .1))
+    ap₂ sub (read-back ns nodeLimit 0 c (omega arith) (p .0)) (read-back ns nodeLimit (size c) d (omega arith) (p .1))
 
 module _ (n : Names) where
   sub-meant : (fs : List Field) → fits (due.Expr ∷ due.Expr ∷ []) fs ≡ true → nodesIn (due.Expr ∷ due.Expr ∷ []) fs ≤ nodeLimit → meaningOf (ruleOf n rule.Sub fs) ≡ meantBy n rule.Sub fs
@@ -64,14 +68,13 @@ module _ (n : Names) where
   sub-meant fs f small =
       let a = read-right n (length fs) (due.Expr ∷ []) fs (omega arith) f in
       let b = read-right n (length (readExpr n fs .rest)) [] (readExpr n fs .rest) (omega arith) (a .fit) in
-      let e = laid-two (readExpr n fs .expr) (readExpr n (readExpr n fs .rest) .expr) (omega (arith, a .nodes, b .nodes)) in
-      rw (e .0, e .1)
+      two-meant (readExpr n fs .expr) (readExpr n (readExpr n fs .rest) .expr) (omega (arith, a .nodes, b .nodes))
 
   in-meant : (fs : List Field) → fits (due.Expr ∷ due.Item ∷ []) fs ≡ true → nodesIn (due.Expr ∷ due.Item ∷ []) fs ≤ nodeLimit → meaningOf (ruleOf n rule.In fs) ≡ meantBy n rule.In fs
   unfolding Reader
   in-meant fs f small =
       let a = read-right n (length fs) (due.Item ∷ []) fs (omega arith) f in
-      rw (laid-one (readExpr n fs .expr) (omega (arith, a .nodes)))
+      one-meant (itemOf n (at 0 (readExpr n fs .rest))) (readExpr n fs .expr) (omega (arith, a .nodes))
 
   -- a path of 2 to 4 roles, and the last
   chain-meant : (fs : List Field) → fits (dues (ruleLineup rule.Chain (length fs))) fs ≡ true → meaningOf (ruleOf n rule.Chain fs) ≡ meantBy n rule.Chain fs
