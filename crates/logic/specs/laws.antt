@@ -1,4 +1,5 @@
--- What is proved of the ground floor's definitions.
+-- What is proved of the ground floor's definitions, and of writing lists.
 pub mod Decides
 pub mod Lowest
 pub mod Number
+pub mod Sets

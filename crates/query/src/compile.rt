@@ -183,6 +183,7 @@ impl Query {
             return Outcome::Refused(QueryRefusal::Room);
         }
         fill(head, nodes, room);
-        Outcome::Compiled(n, answers_of(head))
+        let answers = answers_of(head);
+        Outcome::Compiled(n, answers)
     }
 }

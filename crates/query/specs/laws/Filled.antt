@@ -12,14 +12,14 @@ use Rattle.rule.specs.declared.RoleUse.{RoleUse}
 use Rattle.rule.specs.declared.Slot.{Slot}
 use Rattle.rule.specs.Expr.{Expr, exprOf}
 use Rattle.query.specs.declared.Cursor.{Cursor}
-use Rattle.query.specs.Body.{firstItem, eq, Body, end, atom, not, _⊕_, flat}
+use Rattle.query.specs.Body.{firstItem, Body, end, atom, not, _⊕_, flat}
 use Rattle.query.specs.Translation.{link, variables, ofExpr, path, without, bodyOf}
 use Rattle.query.specs.Length.{lengthOf, headLength}
 use Rattle.query.specs.Promise.{itemLimit}
 use Rattle.query.specs.own.Writing.{SmallRole, SmallHead, Wrote, RoomFor, Roomy, Written, RoomyPath, Pathed, Spacious, Filled}
 use Rattle.query.specs.laws.Body.{flat-⊕, length-flat}
 use Rattle.query.specs.laws.Length.{size-path, variables-le}
-use Rattle.query.specs.laws.Writing.{then, wrote-length, expr-words, link-words, flat-link}
+use Rattle.query.specs.laws.Writing.{then, wrote-length, expr-words, link-words}
 
 abbrev opening : List ℕ
 opening = 4 ∷ 0 ∷ 0 ∷ 0 ∷ []
@@ -119,32 +119,12 @@ unfolding headLength
 differ-room l ns c a b e s = rw e (let h = s .fits in omega arith)
 
 -- what was written at the start is the query
-at-start : (l l₁ : List ℕ) (ns : List Slot) (h : Head) (c r : Cursor) (k n : ℕ) (ws : List ℕ) → c ≡ start k → flat (bodyOf ns h) ≡ ws → Wrote l l₁ c r ws n → Filled l l₁ ns h
-at-start l l₁ ns h c r k n ws e f w = record { room = w .room ∙ ap₂ (λ p vs. sets l p vs) (ap (λ d. d .place) e) (sym f) }
+pub at-start : {l l₁ : List ℕ} {ns : List Slot} {h : Head} {c r : Cursor} {k n : ℕ} {ws : List ℕ} → c ≡ start k → flat (bodyOf ns h) ≡ ws → Wrote l l₁ c r ws n → Filled l l₁ ns h
+at-start {l} e f w = record { room = w .room ∙ ap₂ (λ p vs. sets l p vs) (ap (λ d. d .place) e) (sym f) }
 
-pub ref-filled : (l l₁ : List ℕ) (ns : List Slot) (c r : Cursor) (u : RoleUse) → c ≡ start 1 → Wrote l l₁ c r (flat (without (link u 0 0))) 0 → Filled l l₁ ns (Ref u)
-unfolding bodyOf
-ref-filled l l₁ ns c r u e w = at-start l l₁ ns (Ref u) c r 1 0 (flat (without (link u 0 0))) e refl w
-
-pub irr-filled : (l l₁ : List ℕ) (ns : List Slot) (c r : Cursor) (u : RoleUse) → c ≡ start 1 → Wrote l l₁ c r (flat (atom (link u 0 0) end)) 0 → Filled l l₁ ns (Irr u)
-unfolding bodyOf
-irr-filled l l₁ ns c r u e w = at-start l l₁ ns (Irr u) c r 1 0 (flat (atom (link u 0 0) end)) e refl w
-
-pub rel-filled : (l l₁ : List ℕ) (ns : List Slot) (c r : Cursor) (u : RoleUse) (a b : Item) (s t : ℕ) → c ≡ start 0 → s ≡ firstItem + a .0 → t ≡ firstItem + b .0 → Wrote l l₁ c r (flat (without (link u s t))) 0 → Filled l l₁ ns (Rel u a b)
-unfolding bodyOf
-rel-filled l l₁ ns c r u a b s t e f g w = at-start l l₁ ns (Rel u a b) c r 0 0 (flat (without (link u s t))) e (ap₂ (λ x y. flat (without (link u x y))) (sym f) (sym g)) w
-
-pub no-rel-filled : (l l₁ : List ℕ) (ns : List Slot) (c r : Cursor) (u : RoleUse) (a b : Item) (s t : ℕ) → c ≡ start 0 → s ≡ firstItem + a .0 → t ≡ firstItem + b .0 → Wrote l l₁ c r (flat (atom (link u s t) end)) 0 → Filled l l₁ ns (NoRel u a b)
-unfolding bodyOf
-no-rel-filled l l₁ ns c r u a b s t e f g w = at-start l l₁ ns (NoRel u a b) c r 0 0 (flat (atom (link u s t) end)) e (ap₂ (λ x y. flat (atom (link u x y) end)) (sym f) (sym g)) w
-
-pub same-filled : (l l₁ : List ℕ) (ns : List Slot) (c r : Cursor) (a b : Item) (s t : ℕ) → c ≡ start 0 → s ≡ firstItem + a .0 → t ≡ firstItem + b .0 → Wrote l l₁ c r (flat (without (eq s t))) 0 → Filled l l₁ ns (Same a b)
-unfolding bodyOf
-same-filled l l₁ ns c r a b s t e f g w = at-start l l₁ ns (Same a b) c r 0 0 (flat (without (eq s t))) e (ap₂ (λ x y. flat (without (eq x y))) (sym f) (sym g)) w
-
-pub differ-filled : (l l₁ : List ℕ) (ns : List Slot) (c r : Cursor) (a b : Item) (s t : ℕ) → c ≡ start 0 → s ≡ firstItem + a .0 → t ≡ firstItem + b .0 → Wrote l l₁ c r (flat (atom (eq s t) end)) 0 → Filled l l₁ ns (Differ a b)
-unfolding bodyOf
-differ-filled l l₁ ns c r a b s t e f g w = at-start l l₁ ns (Differ a b) c r 0 0 (flat (atom (eq s t) end)) e (ap₂ (λ x y. flat (atom (eq x y) end)) (sym f) (sym g)) w
+-- the same of a query q of two items' terms
+pub items-filled : {l l₁ : List ℕ} {ns : List Slot} {h : Head} {c r : Cursor} {k n s t : ℕ} (q : ℕ → ℕ → Body) (a b : Item) → c ≡ start k → s ≡ firstItem + a .0 → t ≡ firstItem + b .0 → bodyOf ns h ≡ q (firstItem + a .0) (firstItem + b .0) → Wrote l l₁ c r (flat (q s t)) n → Filled l l₁ ns h
+items-filled q a b e f g y w = at-start e (ap flat (y ∙ ap₂ q (sym f) (sym g))) w
 
 -- ---- two parts
 
@@ -152,23 +132,17 @@ differ-filled l l₁ ns c r a b s t e f g w = at-start l l₁ ns (Differ a b) c 
 after : (l l₁ : List ℕ) (c c₁ : Cursor) (k : ℕ) (vs : List ℕ) (n m : ℕ) → c ≡ start k → Wrote l l₁ c c₁ vs n → length vs + m ≤ length l → c₁ .place + m ≤ length l₁
 after l l₁ c c₁ k vs n m e w h = let z : c .place ≡ 0 = ap (λ d. d .place) e in let p = w .place in omega (arith, wrote-length l l₁ c c₁ vs n w)
 
+-- a query of the parts p and q
+pub two-filled : {l l₁ l₂ : List ℕ} {ns : List Slot} {h : Head} {c c₁ c₂ : Cursor} {k m n : ℕ} (p q : Body) → c ≡ start k → bodyOf ns h ≡ p ⊕ q → Wrote l l₁ c c₁ (flat p) m → Wrote l₁ l₂ c₁ c₂ (flat q) n → Filled l l₂ ns h
+two-filled p q e y w x = at-start e (ap flat y ∙ flat-⊕ p q) (then _ _ _ _ _ _ (flat p) (flat q) _ _ w x)
+
 pub role-sub-rest : (l l₁ : List ℕ) (ns : List Slot) (c c₁ : Cursor) (u v : RoleUse) → c ≡ start 2 → Spacious l ns (RoleSub u v) → Wrote l l₁ c c₁ (flat (atom (link u 0 1) end)) 0 → RoomFor l₁ c₁ 3 v
 unfolding headLength
 role-sub-rest l l₁ ns c c₁ u v e s w = record { fits = after l l₁ c c₁ 2 (flat (atom (link u 0 1) end)) 0 12 e w (let h = s .fits in omega (arith, link-words u 0 1)); small = s .small .1 }
 
-pub role-sub-filled : (l l₁ l₂ : List ℕ) (ns : List Slot) (c c₁ c₂ : Cursor) (u v : RoleUse) → c ≡ start 2 → Wrote l l₁ c c₁ (flat (atom (link u 0 1) end)) 0 → Wrote l₁ l₂ c₁ c₂ (flat (without (link v 0 1))) 0 → Filled l l₂ ns (RoleSub u v)
-unfolding bodyOf
-role-sub-filled l l₁ l₂ ns c c₁ c₂ u v e w x =
-    at-start l l₂ ns (RoleSub u v) c c₂ 2 0 (flat (atom (link u 0 1) end) ++ flat (without (link v 0 1))) e (flat-link u 0 1 (without (link v 0 1))) (then l l₁ l₂ c c₁ c₂ (flat (atom (link u 0 1) end)) (flat (without (link v 0 1))) 0 0 w x)
-
 pub dis-rest : (l l₁ : List ℕ) (ns : List Slot) (c c₁ : Cursor) (u v : RoleUse) → c ≡ start 2 → Spacious l ns (Dis u v) → Wrote l l₁ c c₁ (flat (atom (link u 0 1) end)) 0 → RoomFor l₁ c₁ 1 v
 unfolding headLength
 dis-rest l l₁ ns c c₁ u v e s w = record { fits = after l l₁ c c₁ 2 (flat (atom (link u 0 1) end)) 0 4 e w (let h = s .fits in omega (arith, link-words u 0 1)); small = s .small .1 }
-
-pub dis-filled : (l l₁ l₂ : List ℕ) (ns : List Slot) (c c₁ c₂ : Cursor) (u v : RoleUse) → c ≡ start 2 → Wrote l l₁ c c₁ (flat (atom (link u 0 1) end)) 0 → Wrote l₁ l₂ c₁ c₂ (flat (atom (link v 0 1) end)) 0 → Filled l l₂ ns (Dis u v)
-unfolding bodyOf
-dis-filled l l₁ l₂ ns c c₁ c₂ u v e w x =
-    at-start l l₂ ns (Dis u v) c c₂ 2 0 (flat (atom (link u 0 1) end) ++ flat (atom (link v 0 1) end)) e (flat-link u 0 1 (atom (link v 0 1) end)) (then l l₁ l₂ c c₁ c₂ (flat (atom (link u 0 1) end)) (flat (atom (link v 0 1) end)) 0 0 w x)
 
 -- ---- a chain
 
@@ -195,7 +169,7 @@ unfolding bodyOf
 chain-filled l l₁ l₂ ns c c₁ c₂ k r1 r2 r3 r4 r e p x =
     let q : Body = path (take k (r1 ∷ r2 ∷ r3 ∷ r4 ∷ [])) 0 2 in
     let w : Wrote l l₁ c c₁ (flat q) (k - 1) = subst (λ v. Wrote l l₁ c c₁ (flat (path (take k (r1 ∷ r2 ∷ r3 ∷ r4 ∷ [])) 0 v)) (k - 1)) (ap (λ d. d .next) e) (p .wrote) in
-    at-start l l₂ ns (Chain k r1 r2 r3 r4 r) c c₂ 2 (k - 1 + 0) (flat q ++ flat (without (link r 0 1))) e (flat-⊕ q (without (link r 0 1))) (then l l₁ l₂ c c₁ c₂ (flat q) (flat (without (link r 0 1))) (k - 1) 0 w x)
+    two-filled q (without (link r 0 1)) e refl w x
 
 -- ---- an expression of an item
 
@@ -225,7 +199,7 @@ in-filled l l₁ l₂ l₃ ns c c₁ c₂ c₃ i t a e f w d x =
     let nx : c₁ .next ≡ 0 = (let z : c .next ≡ 0 = ap (λ q. q .next) e in let q = w .next in omega arith) in
     let ws : List ℕ = flat (ofExpr C (firstItem + a .0) 0) in
     let d′ : Wrote l₁ l₂ c₁ c₂ ws (variables C) = subst₂ (λ s v. Wrote l₁ l₂ c₁ c₂ (flat (ofExpr C s v)) (variables C)) f nx (d .wrote) in
-    at-start l l₃ ns (In i a) c c₃ 0 (0 + (variables C + 0)) (opening ++ (ws ++ closing)) e refl (then l l₁ l₃ c c₁ c₃ opening (ws ++ closing) 0 (variables C + 0) w (then l₁ l₂ l₃ c₁ c₂ c₃ ws closing (variables C) 0 d′ x))
+    at-start e refl (then l l₁ l₃ c c₁ c₃ opening (ws ++ closing) 0 (variables C + 0) w (then l₁ l₂ l₃ c₁ c₂ c₃ ws closing (variables C) 0 d′ x))
 
 -- ---- two expressions of x
 
@@ -277,5 +251,5 @@ sub-filled l l₁ l₂ l₃ l₄ ns c c₁ c₂ c₃ c₄ i j e d w f x =
     let ws : List ℕ = flat (ofExpr D 0 (1 + variables C)) in
     let d′ : Wrote l l₁ c c₁ vs (variables C) = subst (λ v. Wrote l l₁ c c₁ (flat (ofExpr C 0 v)) (variables C)) z (d .wrote) in
     let f′ : Wrote l₂ l₃ c₂ c₃ ws (variables D) = subst (λ v. Wrote l₂ l₃ c₂ c₃ (flat (ofExpr D 0 v)) (variables D)) nx (f .wrote) in
-    at-start l l₄ ns (Sub i j) c c₄ 1 (variables C + (0 + (variables D + 0))) (vs ++ (opening ++ (ws ++ closing))) e (flat-⊕ (ofExpr C 0 1) (not (ofExpr D 0 (1 + variables C)) end))
+    at-start e (flat-⊕ (ofExpr C 0 1) (not (ofExpr D 0 (1 + variables C)) end))
     (then l l₁ l₄ c c₁ c₄ vs (opening ++ (ws ++ closing)) (variables C) (0 + (variables D + 0)) d′ (then l₁ l₂ l₄ c₁ c₂ c₄ opening (ws ++ closing) 0 (variables D + 0) w (then l₂ l₃ l₄ c₂ c₃ c₄ ws closing (variables D) 0 f′ x)))

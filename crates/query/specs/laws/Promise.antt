@@ -100,13 +100,13 @@ room-refused n u room r k w i h le lt =
     let e : r ≡ size (queryOf u) = exact-length u r w h le in
     refused (refused-6 k w i (subst (λ m. m ≤ itemLimit) e le) (subst (λ m. length room < 4 * m) e lt)) refl
 
-pub filled-compiled : (n : Counts) (u : Rule) (before after : List ℕ) (r k : ℕ) → Fits width n → WellFormed u → RuleWithin n u → Long (u .nodes) (u .head) r → r ≤ itemLimit → 4 * r ≤ length before
-    → Filled before after (u .nodes) (u .head) → k ≡ answersOf (u .head) → Compiles width n u before after (Compiled r k)
-filled-compiled n u before after r k f w i h le fit d a =
+pub filled-compiled : (n : Counts) (u : Rule) (before after : List ℕ) (r k : ℕ) {o : Outcome} → Fits width n → WellFormed u → RuleWithin n u → Long (u .nodes) (u .head) r → r ≤ itemLimit → 4 * r ≤ length before
+    → Filled before after (u .nodes) (u .head) → k ≡ answersOf (u .head) → o ≡ Compiled r k → Compiles width n u before after o
+filled-compiled n u before after r k f w i h le fit d a q =
     let e : r ≡ size (queryOf u) = exact-length u r w h le in
     let m : 4 * size (queryOf u) ≤ length before = subst (λ z. 4 * z ≤ length before) e fit in
     let c : after ≡ flat (queryOf u) ++ drop (4 * size (queryOf u)) before = d .room ∙ at-front before (flat (queryOf u)) (omega (arith, length-flat (queryOf u))) ∙ ap (λ z. flat (queryOf u) ++ drop z before) (length-flat (queryOf u)) in
-    rw (e, a) (compiled (record { fits = f; form = w; within = i; short = subst (λ z. z ≤ itemLimit) e le; enough = m }) c)
+    rw (q, e, a) (compiled (record { fits = f; form = w; within = i; short = subst (λ z. z ≤ itemLimit) e le; enough = m }) c)
 
 -- ---- one result
 

@@ -3,11 +3,12 @@ use mathlib.Core.Path.{_≡_, refl, sym, ap, subst, subst₂, _∙_}
 use mathlib.Core.Bool.{Bool, true, false}
 use mathlib.Core.List.{List, [], _∷_, _++_}
 use Prim.Native.Nat.{ℕ, zero, suc, _+_, _*_, _-_, _/_, _<_, _≤_}
-use native.Mathlib.Nat.{add-suc, suc-add, add-zero, suc-mul, mul-div-cancel-left, pos-of-ne-zero}
+use native.Mathlib.Nat.{suc-mul, mul-div-cancel-left, pos-of-ne-zero}
 use native.Mathlib.Numerals.{sub-one}
 use native.Mathlib.Omega.{arith}
-use lib.ListN.{length, set, take, length-append, length-take}
-use lib.Seq.{sets, length-sets}
+use lib.ListN.{length, take, length-append, length-take}
+use lib.Seq.{length-sets}
+use Rattle.logic.specs.laws.Sets.{sets-append}
 use Rattle.store.specs.declared.Concept.{Concept}
 use Rattle.store.specs.declared.Item.{Item}
 use Rattle.rule.specs.declared.Node.{Node}
@@ -36,17 +37,13 @@ at-zero k ns i e = ap (λ m. exprAt m ns i) e ∙ exprAt-none ns i
 
 -- ---- writing
 
-pub sets-more : (l : List ℕ) (i : ℕ) (vs ws : List ℕ) → sets (sets l i vs) (i + length vs) ws ≡ sets l i (vs ++ ws)
-sets-more l i [] ws = rw (add-zero i)
-sets-more l i (v ∷ vs) ws = rw (add-suc i (length vs), ← suc-add i (length vs)) (sets-more (set l i v) (suc i) vs ws)
-
 pub nothing : (l : List ℕ) (c : Cursor) → Wrote l l c c [] 0
 nothing l c = record { room = refl; place = omega arith; next = omega arith }
 
 pub then : (l l₁ l₂ : List ℕ) (c c₁ c₂ : Cursor) (vs ws : List ℕ) (u w : ℕ) → Wrote l l₁ c c₁ vs u → Wrote l₁ l₂ c₁ c₂ ws w → Wrote l l₂ c c₂ (vs ++ ws) (u + w)
 then l l₁ l₂ c c₁ c₂ vs ws u w a b =
     record {
-      room = b .room ∙ rw (a .room, a .place) (sets-more l (c .place) vs ws);
+      room = b .room ∙ rw (a .room, a .place) (sym (sets-append l (c .place) vs ws));
       place = (let h = a .place in let k = b .place in omega (arith, length-append vs ws));
       next = (let h = a .next in let k = b .next in omega arith);
     }
@@ -239,7 +236,7 @@ flat-way : (i : Bool) (r s t : ℕ) (q : Body) → flat (atom (linkWay i r s t) 
 flat-way false r s t q = refl
 flat-way true r s t q = refl
 
-pub flat-link : (R : RoleUse) (s t : ℕ) (q : Body) → flat (atom (link R s t) q) ≡ flat (atom (link R s t) end) ++ flat q
+flat-link : (R : RoleUse) (s t : ℕ) (q : Body) → flat (atom (link R s t) q) ≡ flat (atom (link R s t) end) ++ flat q
 flat-link R s t q = flat-way (R .inverse) (R .role .0) s t q
 
 pub turns-done : (l l₁ l₂ l₃ : List ℕ) (c c₁ d c₂ c₃ : Cursor) (t : ℕ) (R : RoleUse) (e : Expr) (n : ℕ) → ¬ (n ≡ 0) → Wrote l l₁ c c₁ (flat (atom (link R t (c .next)) end)) 0 → d .place ≡ c₁ .place → d .next ≡ c .next + 1 → Written l₁ l₂ d c₂ (c .next) e → Turned l₂ l₃ c₂ c₃ t R e (n - 1) → Turned l l₃ c c₃ t R e n

@@ -1,13 +1,13 @@
 -- Laws of writing an expression's nodes word by word. Assumes nothing.
 use mathlib.Core.Path.{_≡_, refl, sym, _∙_, ap}
-use mathlib.Core.List.{List, [], _∷_, _++_, append-assoc, map}
+use mathlib.Core.List.{List, [], _∷_, _++_, append-assoc, map, map-append}
 use Prim.Native.Nat.{ℕ, zero, suc, _+_, _<_}
 use native.Mathlib.Nat.{add-zero}
 use native.Mathlib.Numerals.{add-one}
 use native.Mathlib.Omega.{arith}
 use lib.ListN.{drop, length, length-append, length-map, set}
 use lib.Seq.{set-comm, set-set, sets}
-use Rattle.text.specs.laws.Text.{sets-append}
+use Rattle.logic.specs.laws.Sets.{sets-append}
 use Rattle.rule.specs.declared.Node.{Node}
 use Rattle.rule.specs.declared.Node.the-variants as node
 use Rattle.rule.specs.declared.Slot.{Slot}
@@ -22,10 +22,6 @@ use Rattle.saying.specs.Read.{Read, byWord, nodesAt, size, slot}
 use Rattle.field.specs.Words.{at, Field}
 
 -- ---- lists
-
-pub map-append : (xs ys : List Node) → map slot (xs ++ ys) ≡ map slot xs ++ map slot ys
-map-append [] ys = refl
-map-append (x ∷ xs) ys = rw (map-append xs ys)
 
 -- a store before a run of stores
 set-sets : (l : List Slot) (i k : ℕ) (v : Slot) (vs : List Slot) → i < k → set (sets l k vs) i v ≡ sets (set l i v) k vs
@@ -43,7 +39,7 @@ sets-at l i j k v vs e h = rw e (sets-set l i j v vs h)
 
 -- one store after a run of stores
 sets-last : (l : List Slot) (i k : ℕ) (xs : List Node) (y : Node) → k ≡ i + length xs → set (sets l i (map slot xs)) k (slot y) ≡ sets l i (map slot (xs ++ y ∷ []))
-sets-last l i k xs y e = sym (rw (map-append xs (y ∷ []), sets-append l i (map slot xs) (slot y ∷ []), length-map, ← e))
+sets-last l i k xs y e = sym (rw (map-append slot xs (y ∷ []), sets-append l i (map slot xs) (slot y ∷ []), length-map, ← e))
 
 -- ---- what a word writes
 

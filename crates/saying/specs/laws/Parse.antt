@@ -1,13 +1,13 @@
 -- Laws of reading one expression into nodes, word by word. Assumes nothing.
 use mathlib.Core.Path.{_≡_, refl, sym, _∙_}
 use mathlib.Core.Bool.{true, true≢false}
-use mathlib.Core.List.{List, [], _∷_, _++_, map}
+use mathlib.Core.List.{List, [], _∷_, _++_, map, map-append}
 use Prim.Native.Nat.{ℕ, zero, suc, _+_, _-_, _≤_, _<_}
 use native.Mathlib.Omega.{arith}
 use lib.ListN.{drop, length, length-append, length-map}
 use lib.Seq.{sets}
 use Rattle.text.specs.own.Split.{partsFrom}
-use Rattle.text.specs.laws.Text.{sets-append}
+use Rattle.logic.specs.laws.Sets.{sets-append}
 use Rattle.rule.specs.declared.Node.{Node}
 use Rattle.rule.specs.declared.Node.the-variants as node
 use Rattle.rule.specs.declared.Slot.{Slot}
@@ -24,7 +24,7 @@ use Rattle.field.specs.Names.{Names, nodesIn, nodesOf}
 use Rattle.saying.specs.own.Nodes.{ReadsOne, Ready, WordTaken, childrenOf, headFields, headNodes, joining}
 use Rattle.saying.specs.Read.{Read, byWord, nodesAt, read, size, slot}
 use Rattle.field.specs.Words.{at, Field, operatorOf}
-use Rattle.saying.specs.laws.Nodes.{drop-later, front, join-nodes, leaf-nodes, map-append, nodes-length, one-nodes, put-all, two-nodes}
+use Rattle.saying.specs.laws.Nodes.{drop-later, front, join-nodes, leaf-nodes, nodes-length, one-nodes, put-all, two-nodes}
 use Rattle.saying.specs.laws.Read.{Begun, Reader, drop-two, plain-field, read-right}
 
 -- the first word of an expression, and what it wants
@@ -160,7 +160,7 @@ size-some (one a) = omega arith
 
 -- two runs of stores, one after the other
 pub sets-both : (arr : List Slot) (i : ℕ) (xs ys : List Node) → sets (sets arr i (map slot xs)) (i + length xs) (map slot ys) ≡ sets arr i (map slot (xs ++ ys))
-sets-both arr i xs ys = sym (rw (map-append xs ys, sets-append arr i (map slot xs) (map slot ys), length-map))
+sets-both arr i xs ys = sym (rw (map-append slot xs ys, sets-append arr i (map slot xs) (map slot ys), length-map))
 
 read-step : (n : Names) (left : ℕ) (fs : List Field) → (left ≡ 0 → ⊥) → read left n fs ≡ byWord n (read (left - 1) n) (operatorOf (at 0 fs)) (at 0 fs) (drop 1 fs)
 unfolding read

@@ -3,21 +3,15 @@ use mathlib.Core.Path.{_≡_, refl, ap₂, _∙_}
 use mathlib.Core.Bool.{Bool, true, false, cond}
 use mathlib.Core.List.{List, [], _∷_, _++_}
 use Prim.Native.Nat.{ℕ, zero, suc, _+_, _*_, _/_, _%_, _<_, _≤_, _^_, zero-le}
-use native.Mathlib.Nat.{add-zero, pow-suc, lt-of-lt-of-le}
+use native.Mathlib.Nat.{pow-suc, lt-of-lt-of-le}
 use native.Mathlib.Numerals.{add-one}
 use native.Mathlib.Omega.{arith}
 use borrow.Author.Tests.{lt-ltb, le-ltb, ltb-false}
 use lib.Dec.{ltb, lit≤}
 use lib.ListN.{length, set, getD, take, drop, length-append, drop-of-length-le}
 use lib.Seq.{sets, sets-eq, drop-cons, take-append-seam}
+use Rattle.logic.specs.laws.Sets.{sets-append}
 use Rattle.text.specs.Text.{digits, decimal, Wrote}
-
--- writing one text after the other
-pub sets-append : {A : Type 0} (l : List A) (i : ℕ) (u v : List A) → sets l i (u ++ v) ≡ sets (sets l i u) (i + length u) v
-sets-append l i [] v = rw add-zero
-sets-append l i (a ∷ u) v =
-    let k : suc i + length u ≡ i + suc (length u) = omega arith in
-    sets-append (set l i a) (suc i) u v ∙ rw k
 
 -- one text after the other
 pub wrote-then : {room mid exit t u : List ℕ} {at p r : ℕ} → Wrote room at t mid p → Wrote mid p u exit r → Wrote room at (t ++ u) exit r

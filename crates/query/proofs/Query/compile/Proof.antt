@@ -48,7 +48,7 @@ same-length : tie.Need-same-length
 same-length c = search needs
 
 returns-6 : tie.Need-returns-6
-returns-6 c = filled-compiled _ _ _ _ _ _ (c .before .before .before .before .before .before .before .before .before .before .before .before .before .before .fits2 .ensures .holds (not-false _ (c .before .before .before .before .before .before .before .before .before .before .before .before .before .if1 .left))) (c .before .before .before .before .before .before .before .before .before .before .before .before .well-formed .ensures .holds (not-false _ (c .before .before .before .before .before .before .before .before .before .before .before .if2 .left))) (c .before .before .before .before .before .before .before .before .before .before .rule-within .ensures .holds (not-false _ (c .before .before .before .before .before .before .before .before .before .if3 .left))) (c .before .before .before .before .before .before .before .rule-length .ensures) (omega (arith, c .before .before .before .before .before .before .if4 .left)) (omega (arith, c .before .before .before .before .before .if5 .left)) (c .before .before .before .fill .ensures) (c .answers-of .ensures)
+returns-6 c = filled-compiled _ _ _ _ _ _ (c .before .before .before .before .before .before .before .before .before .before .before .before .before .before .fits2 .ensures .holds (not-false _ (c .before .before .before .before .before .before .before .before .before .before .before .before .before .if1 .left))) (c .before .before .before .before .before .before .before .before .before .before .before .before .well-formed .ensures .holds (not-false _ (c .before .before .before .before .before .before .before .before .before .before .before .if2 .left))) (c .before .before .before .before .before .before .before .before .before .before .rule-within .ensures .holds (not-false _ (c .before .before .before .before .before .before .before .before .before .if3 .left))) (c .before .before .before .before .before .before .before .rule-length .ensures) (omega (arith, c .before .before .before .before .before .before .if4 .left)) (omega (arith, c .before .before .before .before .before .if5 .left)) (c .before .before .before .fill .ensures) (c .answers-of .ensures) refl
 
 pub compile-spec : {M : Type 1} → statement M
 compile-spec =

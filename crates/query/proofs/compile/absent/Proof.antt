@@ -1,9 +1,11 @@
 -- `compile::absent` meets its contract: a role atom of two items inside a not. Assumes nothing.
+use mathlib.Core.Path.{refl}
 use mathlib.Core.List.{[]}
 use borrow.Author.Needs.{needs}
 use native.Mathlib.Omega.{arith}
 use Rattle.query.specs.Length.{headLength}
-use Rattle.query.specs.laws.Filled.{atom-room, rel-filled}
+use Rattle.query.specs.Translation.{bodyOf, link, without}
+use Rattle.query.specs.laws.Filled.{atom-room, items-filled}
 use Rattle.query.proofs.compile.absent.Statement.{statement}
 use Rattle.query.proofs.compile.absent.Tie as tie
 
@@ -24,7 +26,8 @@ same-length : tie.Need-same-length
 same-length c = search needs
 
 returns : tie.Need-returns
-returns c = rel-filled _ _ [] _ _ _ _ _ _ _ (c .before .before .before .before .start .ensures) (c .before .before .before .before .before .before .term .ensures) (c .before .before .before .before .before .term2 .ensures) (c .before .before .unlinked .ensures)
+unfolding bodyOf
+returns c = items-filled (λ s t. without (link (c .before .before .before .before .before .before .before .before .args .u) s t)) _ _ (c .before .before .before .before .start .ensures) (c .before .before .before .before .before .before .term .ensures) (c .before .before .before .before .before .term2 .ensures) refl (c .before .before .unlinked .ensures)
 
 pub absent-spec : {M : Type 1} → statement M
 absent-spec =

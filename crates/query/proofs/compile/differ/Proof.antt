@@ -1,7 +1,10 @@
 -- `compile::differ` meets its contract: an equality of two items. Assumes nothing.
+use mathlib.Core.Path.{refl}
 use mathlib.Core.List.{[]}
 use borrow.Author.Needs.{needs}
-use Rattle.query.specs.laws.Filled.{differ-room, differ-filled}
+use Rattle.query.specs.Body.{atom, end, eq}
+use Rattle.query.specs.Translation.{bodyOf}
+use Rattle.query.specs.laws.Filled.{differ-room, items-filled}
 use Rattle.query.proofs.compile.differ.Statement.{statement}
 use Rattle.query.proofs.compile.differ.Tie as tie
 
@@ -21,7 +24,8 @@ same-length : tie.Need-same-length
 same-length c = search needs
 
 returns : tie.Need-returns
-returns c = differ-filled _ _ [] _ _ _ _ _ _ (c .before .before .before .before .start .ensures) (c .before .before .before .before .before .before .term .ensures) (c .before .before .before .before .before .term2 .ensures) (c .before .before .equal .ensures)
+unfolding bodyOf
+returns c = items-filled (λ s t. atom (eq s t) end) _ _ (c .before .before .before .before .start .ensures) (c .before .before .before .before .before .before .term .ensures) (c .before .before .before .before .before .term2 .ensures) refl (c .before .before .equal .ensures)
 
 pub differ-spec : {M : Type 1} → statement M
 differ-spec =

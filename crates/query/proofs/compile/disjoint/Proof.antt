@@ -1,9 +1,12 @@
 -- `compile::disjoint` meets its contract: two role atoms. Assumes nothing.
+use mathlib.Core.Path.{refl}
 use mathlib.Core.List.{[]}
 use borrow.Author.Needs.{needs}
 use native.Mathlib.Omega.{arith}
 use Rattle.query.specs.Length.{headLength}
-use Rattle.query.specs.laws.Filled.{atom-room, dis-rest, dis-filled}
+use Rattle.query.specs.Body.{atom, end}
+use Rattle.query.specs.Translation.{bodyOf, link}
+use Rattle.query.specs.laws.Filled.{atom-room, dis-rest, two-filled}
 use Rattle.query.proofs.compile.disjoint.Statement.{statement}
 use Rattle.query.proofs.compile.disjoint.Tie as tie
 
@@ -21,7 +24,8 @@ same-length : tie.Need-same-length
 same-length c = search needs
 
 returns : tie.Need-returns
-returns c = dis-filled _ _ _ [] _ _ _ _ _ (c .before .before .before .before .before .before .before .before .start .ensures) (c .before .before .before .before .before .before .link .ensures) (c .before .before .link2 .ensures)
+unfolding bodyOf
+returns c = two-filled (atom (link (c .before .before .before .before .before .before .before .before .before .before .args .u) 0 1) end) (atom (link (c .before .before .before .before .before .before .before .before .before .before .args .v) 0 1) end) (c .before .before .before .before .before .before .before .before .start .ensures) refl (c .before .before .before .before .before .before .link .ensures) (c .before .before .link2 .ensures)
 
 pub disjoint-spec : {M : Type 1} → statement M
 disjoint-spec =

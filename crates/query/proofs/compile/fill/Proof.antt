@@ -1,8 +1,10 @@
 -- `compile::fill` meets its contract: each arm writes its own kind. Assumes nothing.
+use mathlib.Core.Path.{refl}
 use borrow.Author.Needs.{needs}
 use native.Mathlib.Omega.{arith}
 use Rattle.query.specs.Length.{headLength}
-use Rattle.query.specs.laws.Filled.{spacious-as, spacious-free, filled-as, filled-free, atom-room, ref-filled, irr-filled}
+use Rattle.query.specs.Translation.{bodyOf}
+use Rattle.query.specs.laws.Filled.{spacious-as, spacious-free, filled-as, filled-free, atom-room, at-start}
 use Rattle.query.proofs.compile.fill.Statement.{statement}
 use Rattle.query.proofs.compile.fill.Tie as tie
 
@@ -102,13 +104,15 @@ same-length-4 : tie.Need-same-length-4
 same-length-4 c = search needs
 
 returns-4 : tie.Need-returns-4
-returns-4 c = filled-as _ _ _ _ _ (c .before .before .before .before .before .before .head4 .given .1) (ref-filled _ _ _ _ _ _ (c .before .before .before .before .start .ensures) (c .before .before .unlinked .ensures))
+unfolding bodyOf
+returns-4 c = filled-as _ _ _ _ _ (c .before .before .before .before .before .before .head4 .given .1) (at-start (c .before .before .before .before .start .ensures) refl (c .before .before .unlinked .ensures))
 
 same-length-5 : tie.Need-same-length-5
 same-length-5 c = search needs
 
 returns-5 : tie.Need-returns-5
-returns-5 c = filled-as _ _ _ _ _ (c .before .before .before .before .before .before .head5 .given .1) (irr-filled _ _ _ _ _ _ (c .before .before .before .before .start2 .ensures) (c .before .before .link .ensures))
+unfolding bodyOf
+returns-5 c = filled-as _ _ _ _ _ (c .before .before .before .before .before .before .head5 .given .1) (at-start (c .before .before .before .before .start2 .ensures) refl (c .before .before .link .ensures))
 
 same-length-6 : tie.Need-same-length-6
 same-length-6 c = search needs

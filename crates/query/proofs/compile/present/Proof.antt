@@ -1,9 +1,12 @@
 -- `compile::present` meets its contract: a role atom of two items. Assumes nothing.
+use mathlib.Core.Path.{refl}
 use mathlib.Core.List.{[]}
 use borrow.Author.Needs.{needs}
 use native.Mathlib.Omega.{arith}
 use Rattle.query.specs.Length.{headLength}
-use Rattle.query.specs.laws.Filled.{atom-room, no-rel-filled}
+use Rattle.query.specs.Body.{atom, end}
+use Rattle.query.specs.Translation.{bodyOf, link}
+use Rattle.query.specs.laws.Filled.{atom-room, items-filled}
 use Rattle.query.proofs.compile.present.Statement.{statement}
 use Rattle.query.proofs.compile.present.Tie as tie
 
@@ -24,7 +27,8 @@ same-length : tie.Need-same-length
 same-length c = search needs
 
 returns : tie.Need-returns
-returns c = no-rel-filled _ _ [] _ _ _ _ _ _ _ (c .before .before .before .before .start .ensures) (c .before .before .before .before .before .before .term .ensures) (c .before .before .before .before .before .term2 .ensures) (c .before .before .link .ensures)
+unfolding bodyOf
+returns c = items-filled (λ s t. atom (link (c .before .before .before .before .before .before .before .before .args .u) s t) end) _ _ (c .before .before .before .before .start .ensures) (c .before .before .before .before .before .before .term .ensures) (c .before .before .before .before .before .term2 .ensures) refl (c .before .before .link .ensures)
 
 pub present-spec : {M : Type 1} → statement M
 present-spec =

@@ -1,9 +1,12 @@
 -- `compile::role_sub` meets its contract: one role atom, then the other inside a not. Assumes nothing.
+use mathlib.Core.Path.{refl}
 use mathlib.Core.List.{[]}
 use borrow.Author.Needs.{needs}
 use native.Mathlib.Omega.{arith}
 use Rattle.query.specs.Length.{headLength}
-use Rattle.query.specs.laws.Filled.{atom-room, role-sub-rest, role-sub-filled}
+use Rattle.query.specs.Body.{atom, end}
+use Rattle.query.specs.Translation.{bodyOf, link, without}
+use Rattle.query.specs.laws.Filled.{atom-room, role-sub-rest, two-filled}
 use Rattle.query.proofs.compile.role_sub.Statement.{statement}
 use Rattle.query.proofs.compile.role_sub.Tie as tie
 
@@ -21,7 +24,8 @@ same-length : tie.Need-same-length
 same-length c = search needs
 
 returns : tie.Need-returns
-returns c = role-sub-filled _ _ _ [] _ _ _ _ _ (c .before .before .before .before .before .before .before .before .start .ensures) (c .before .before .before .before .before .before .link .ensures) (c .before .before .unlinked .ensures)
+unfolding bodyOf
+returns c = two-filled (atom (link (c .before .before .before .before .before .before .before .before .before .before .args .u) 0 1) end) (without (link (c .before .before .before .before .before .before .before .before .before .before .args .v) 0 1)) (c .before .before .before .before .before .before .before .before .start .ensures) refl (c .before .before .before .before .before .before .link .ensures) (c .before .before .unlinked .ensures)
 
 pub role-sub-spec : {M : Type 1} → statement M
 role-sub-spec =

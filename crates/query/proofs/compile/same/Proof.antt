@@ -1,7 +1,10 @@
 -- `compile::same` meets its contract: an equality of two items inside a not. Assumes nothing.
+use mathlib.Core.Path.{refl}
 use mathlib.Core.List.{[]}
 use borrow.Author.Needs.{needs}
-use Rattle.query.specs.laws.Filled.{same-room, same-filled}
+use Rattle.query.specs.Body.{eq}
+use Rattle.query.specs.Translation.{bodyOf, without}
+use Rattle.query.specs.laws.Filled.{same-room, items-filled}
 use Rattle.query.proofs.compile.same.Statement.{statement}
 use Rattle.query.proofs.compile.same.Tie as tie
 
@@ -21,7 +24,8 @@ same-length : tie.Need-same-length
 same-length c = search needs
 
 returns : tie.Need-returns
-returns c = same-filled _ _ [] _ _ _ _ _ _ (c .before .before .before .before .start .ensures) (c .before .before .before .before .before .before .term .ensures) (c .before .before .before .before .before .term2 .ensures) (c .before .before .unequal .ensures)
+unfolding bodyOf
+returns c = items-filled (λ s t. without (eq s t)) _ _ (c .before .before .before .before .start .ensures) (c .before .before .before .before .before .before .term .ensures) (c .before .before .before .before .before .term2 .ensures) refl (c .before .before .unequal .ensures)
 
 pub same-spec : {M : Type 1} → statement M
 same-spec =
