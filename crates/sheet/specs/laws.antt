@@ -12,3 +12,4 @@ pub mod Unique
 pub mod Order
 pub mod Demand3
 pub mod Readings
+pub mod Meant

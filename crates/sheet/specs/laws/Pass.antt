@@ -102,11 +102,11 @@ said-rules k past n s l r q e = go (none l)
     go false = saying-rules k past n s (bodyOf (fields l)) r (formOf (fields l)) q e
 
 -- the line of a rule is not empty
-rule-some : (l : List ℕ) (w : RuleWord) → formOf (fields l) ≡ form.Rule w → none l ≡ false
+pub rule-some : (l : List ℕ) (w : RuleWord) → formOf (fields l) ≡ form.Rule w → none l ≡ false
 rule-some [] w e = let z : _≡_ {A = Form} form.Unknown (form.Rule w) = sym empty-form ∙ e in cc
 rule-some (b ∷ l) w e = refl
 
-rule-said : (k : ℕ) (s : Said) (l : List ℕ) (w : RuleWord) → formOf (fields l) ≡ form.Rule w → lineSaid k s l ≡ saying k s (form.Rule w) (bodyOf (fields l))
+pub rule-said : (k : ℕ) (s : Said) (l : List ℕ) (w : RuleWord) → formOf (fields l) ≡ form.Rule w → lineSaid k s l ≡ saying k s (form.Rule w) (bodyOf (fields l))
 unfolding lineSaid
 rule-said k s l w e = rw (rule-some l w e, e)
 
