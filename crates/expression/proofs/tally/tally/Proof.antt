@@ -35,7 +35,7 @@ count-row-requires : tie.Need-count-row-requires Inv-loop μ-loop
 count-row-requires c κs = search needs
 
 same-row-requires : tie.Need-same-row-requires Inv-loop μ-loop
-same-row-requires c κs = search needs
+same-row-requires c κs = (search needs, search needs, omega arith)
 
 without-requires : tie.Need-without-requires Inv-loop μ-loop
 without-requires c κs = search needs
