@@ -6,6 +6,7 @@ import random
 import re
 import subprocess
 import tempfile
+from collections import namedtuple
 from contextlib import contextmanager
 from pathlib import Path
 
@@ -79,10 +80,26 @@ def compile_file(name, result, options=()):
     subprocess.run([*COMPILER, *options, "-c", str(ROOT / "tests" / name), "-o", str(BUILD / result)], check=True)
 
 
-# The options that plant each of the faults that a file lists for a macro, in the enum whose names begin with NO_.
-def planted(name, macro):
-    listed = re.search(r"enum \w*fault \{\s*NO_\w+,(.*?)\};", (ROOT / "tests" / name).read_text(), re.S).group(1)
-    return [f"-D{macro}={fault}" for fault in re.findall(r"^\s*([A-Z0-9_]+)", listed, re.M)]
+# A fault, and what plants it in the environment of a stand-in (tests/planted.h).
+Fault = namedtuple("Fault", "name environment")
+
+
+# A fault by the number of a variable.
+def fault(variable, number, name):
+    return Fault(f"{variable} {name}", {variable: str(number)})
+
+
+# The faults that a file lists for a variable, in the enum whose names begin with NO_.
+def planted(file, variable):
+    listed = re.search(r"enum \w*fault \{\s*NO_\w+,(.*?)\};", (ROOT / "tests" / file).read_text(), re.S).group(1)
+    return [fault(variable, number, name) for number, name in enumerate(re.findall(r"^\s*([A-Z0-9_]+)", listed, re.M), 1)]
+
+
+# Those of the faults that have these names; each has to be there.
+def chosen_faults(faults, names):
+    chosen = [each for each in faults if each.name.split()[1] in names]
+    assert len(chosen) == len(names), names
+    return chosen
 
 
 # Puts something else into a table or a module under a name, for a while.
@@ -109,15 +126,19 @@ def unread():
         os.close(writing)
 
 
-# Links a program.
-def link(objects, result):
-    subprocess.run([COMPILER[0], *(str(BUILD / name) for name in objects), "-o", str(BUILD / result)], check=True)
-    return BUILD / result
+# Builds a program of files of the tests.
+def build(name, *files):
+    BUILD.mkdir(parents=True, exist_ok=True)
+    objects = [f"{name}_{Path(file).stem}.o" for file in files]
+    for file, result in zip(files, objects):
+        compile_file(file, result)
+    subprocess.run([COMPILER[0], *(str(BUILD / result) for result in objects), "-o", str(BUILD / name)], check=True)
+    return BUILD / name
 
 
-# Gives commands to a driver: its exit code, and the last line that it printed.
-def outcome(program, commands):
-    done = subprocess.run([str(program)], input=commands.encode(), stdout=subprocess.PIPE)
+# Gives commands to a driver, with a fault planted or none: its exit code, and the last line that it printed.
+def outcome(program, commands, environment=None):
+    done = subprocess.run([str(program)], input=commands.encode(), stdout=subprocess.PIPE, env={**os.environ, **(environment or {})})
     return done.returncode, b"".join(done.stdout.splitlines()[-1:]).decode()
 
 
@@ -131,16 +152,16 @@ def wrong_about_sound(program, commands, calls, right, spoiled):
     return wrong + [f"not found out: {each}" for each in spoiled if outcome(program, each)[0] != 1]
 
 
-# Tries the sound stand-in and all faulty ones, one for each option that plants a fault; 0 if the test judges each
-# rightly. `right` are commands of two calls that the sound one passes, `spoiled` some that it does not.
-def selftest(name, seed, test, build, options, right, spoiled):
+# Tries the driver with the sound stand-in, and with each fault; 0 if the test judges each rightly. `right` are commands
+# of two calls that the sound one passes, `spoiled` some that it does not.
+def selftest(name, seed, test, program, faults, right, spoiled):
     commands, calls = test
-    wrong = wrong_about_sound(build([]), commands, calls, right, spoiled)
-    wrong += [f"a stand-in built with {option} passes" for option in options
-              if outcome(build([option]), commands) == (0, f"done {calls}")]
+    wrong = wrong_about_sound(program, commands, calls, right, spoiled)
+    wrong += [f"a stand-in with the fault {fault.name} passes" for fault in faults
+              if outcome(program, commands, fault.environment) == (0, f"done {calls}")]
     for line in wrong:
         print(f"{name} self-test: seed {seed}: {line}")
     if not wrong:
-        print(f"{name} self-test: {calls} calls, the sound stand-in passes, {len(options)} faulty ones "
+        print(f"{name} self-test: {calls} calls, the sound stand-in passes, {len(faults)} faulty ones "
               f"and {len(spoiled)} spoiled lists of commands are all found out, seed {seed}")
     return 1 if wrong else 0

@@ -3,8 +3,8 @@
  *
  * It has the same face as the library. Reading the sheet and writing the text are left to
  * tests/sheet_reference.h and tests/text_reference.h. It is slow and proves nothing. The
- * self-test also builds it with one fault planted, -DHOST_FAULT=CHANGES_THE_SHEET or another
- * of those listed below or in those two, and asks that the tests find it.
+ * self-test also runs it with one fault planted, one of those listed below or in those two,
+ * and asks that the tests find it.
  */
 #include "text_reference.h"
 
@@ -15,9 +15,7 @@ enum host_fault {
     ENDS_THE_PROGRAM        /* the first sheet that is too long ends the program as if all were well */
 };
 
-#ifndef HOST_FAULT
-#define HOST_FAULT NO_HOST_FAULT
-#endif
+PLANTED(HOST_FAULT, NO_HOST_FAULT)
 
 /* What some faults do, whatever is written. */
 static void spoil(uint8_t *sheet, size_t length)

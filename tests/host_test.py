@@ -77,22 +77,13 @@ def report_difference(commands, seed, code, lines):
         print(f"the case is {case.name}, the sheet:\n{sheet_test.shown(case.sheet)}\nthe text due:\n{outcome.text}")
 
 
-# Builds the driver with the stand-in, one fault planted or none.
-def build(options):
-    harness.compile_file("host_reference.c", "host_selftest_host.o", options)
-    parts = ("driver", "store", "rules", "read", "host")
-    return harness.link([f"host_selftest_{part}.o" for part in parts], "host_selftest")
-
-
 # Tries the sound stand-in and all faulty ones; 0 if the test judges each rightly.
 def selftest(seed):
-    harness.BUILD.mkdir(parents=True, exist_ok=True)
-    for name, result in (("host_driver.c", "driver"), ("reference_store.c", "store"), ("rule_reference.c", "rules"),
-                         ("read_reference.c", "read")):
-        harness.compile_file(name, f"host_selftest_{result}.o")
-    options = [option for name, macro in (("sheet_reference.h", "SHEET_FAULT"), ("text_reference.h", "TEXT_FAULT"),
-                                          ("host_reference.c", "HOST_FAULT")) for option in harness.planted(name, macro)]
-    return harness.selftest("host", seed, harness.short_test(sys.modules[__name__], seed, SELFTEST_SHEETS), build, options,
+    program = harness.build("host_selftest", "host_driver.c", "reference_store.c", "rule_reference.c", "read_reference.c",
+                            "host_reference.c")
+    faults = [fault for file, variable in (("sheet_reference.h", "SHEET_FAULT"), ("text_reference.h", "TEXT_FAULT"),
+                                           ("host_reference.c", "HOST_FAULT")) for fault in harness.planted(file, variable)]
+    return harness.selftest("host", seed, harness.short_test(sys.modules[__name__], seed, SELFTEST_SHEETS), program, faults,
                             RIGHT, SPOILED)
 
 

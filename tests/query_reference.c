@@ -2,8 +2,8 @@
  * A plain stand-in for compiled queries, to try the tests on.
  *
  * It has the same face as the library. It proves nothing. The self-test also
- * builds it with one fault planted, -DQUERY_FAULT=ALWAYS_EMPTY or another of those
- * listed below or in tests/rule_shape.h, and asks that the tests find it.
+ * runs it with one fault planted, one of those listed below or in
+ * tests/rule_shape.h, and asks that the tests find it.
  */
 #include "rule_shape.h"
 #include "saltreeve.h"
@@ -99,9 +99,7 @@ enum fault {
     ENDS_THE_PROGRAM           /* the first chain ends the program as if all were well */
 };
 
-#ifndef QUERY_FAULT
-#define QUERY_FAULT NO_FAULT
-#endif
+PLANTED(QUERY_FAULT, NO_FAULT)
 
 enum {
     REFUSED_COUNTS = -1, REFUSED_MALFORMED = -3, REFUSED_NUMBER = -4, REFUSED_TOO_LONG = -5, REFUSED_ROOM = -6
@@ -495,7 +493,8 @@ static int too_long(uint64_t length)
 {
     if (QUERY_FAULT == LENGTH_UNASKED)
         return 0;
-    return length > MOST_ITEMS + (QUERY_FAULT == ITEMS_513_TAKEN) - (QUERY_FAULT == ITEMS_512_REFUSED);
+    uint64_t most = MOST_ITEMS;
+    return length > most + (QUERY_FAULT == ITEMS_513_TAKEN) - (QUERY_FAULT == ITEMS_512_REFUSED);
 }
 
 /* Whether a room is too small for a query of some length. */

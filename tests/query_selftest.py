@@ -35,12 +35,6 @@ SPOILED = (
 )
 
 
-# Builds the driver with the stand-in, one fault planted or none.
-def build(options):
-    harness.compile_file("query_reference.c", "query_selftest_queries.o", options)
-    return harness.link(["query_selftest_driver.o", "query_selftest_queries.o"], "query_selftest")
-
-
 # --- Faults in the oracle ---
 
 
@@ -155,9 +149,8 @@ def run_oracle(seed):
 
 # Tries the sound stand-in, all faulty ones and the oracle; 0 if the test judges each rightly.
 def run(seed):
-    harness.BUILD.mkdir(parents=True, exist_ok=True)
-    harness.compile_file("query_driver.c", "query_selftest_driver.o")
-    options = harness.planted("rule_shape.h", "SHAPE_FAULT") + harness.planted("query_reference.c", "QUERY_FAULT")
+    program = harness.build("query_selftest", "query_driver.c", "query_reference.c")
+    faults = harness.planted("rule_shape.h", "SHAPE_FAULT") + harness.planted("query_reference.c", "QUERY_FAULT")
     test = harness.short_test(query_cases, seed, RULES, ROUNDS)
-    faulty = harness.selftest("query", seed, test, build, options, RIGHT, SPOILED)
+    faulty = harness.selftest("query", seed, test, program, faults, RIGHT, SPOILED)
     return faulty or run_oracle(seed)

@@ -3,8 +3,8 @@
  *
  * It has the same face as the library. Reading the sheet and writing the text are left to
  * tests/sheet_reference.h and tests/text_reference.h. It is slow and proves nothing. The
- * self-test also builds it with one fault planted, -DREAD_FAULT=REFUSED_UNTOUCHED or another
- * of those listed below or in those two, and asks that the tests find it.
+ * self-test also runs it with one fault planted, one of those listed below or in those two,
+ * and asks that the tests find it.
  */
 #include "text_reference.h"
 
@@ -37,9 +37,7 @@ enum read_fault {
     CHANGES_THE_SHEET       /* the sheet's first byte is changed */
 };
 
-#ifndef READ_FAULT
-#define READ_FAULT NO_READ_FAULT
-#endif
+PLANTED(READ_FAULT, NO_READ_FAULT)
 
 enum { REFUSED_SIZE = -1 };
 
@@ -131,7 +129,7 @@ int64_t saltreeve_check_in(const uint8_t *bytes, size_t bytes_length, uint64_t *
 {
     static struct sheet sheet;
     static struct text text;
-    struct outcome outcome;
+    struct outcome outcome = {0};
     read_all(&outcome, &sheet, bytes, bytes_length, length);
     print_sheet(&text, &sheet, outcome.line, outcome.refused);
     if (outcome.refused > 1)

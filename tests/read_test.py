@@ -124,21 +124,13 @@ def report_difference(commands, seed, code, lines):
         print(f"  {line}")
 
 
-# Builds the driver with the stand-in, one fault planted or none.
-def build(options):
-    harness.compile_file("read_reference.c", "read_selftest_read.o", options)
-    return harness.link([f"read_selftest_{part}.o" for part in ("driver", "store", "rules", "read")], "read_selftest")
-
-
 # Tries the sound stand-in and all faulty ones; 0 if the test judges each rightly.
 def selftest(seed):
-    harness.BUILD.mkdir(parents=True, exist_ok=True)
-    for name, result in (("read_driver.c", "driver"), ("reference_store.c", "store"), ("rule_reference.c", "rules")):
-        harness.compile_file(name, f"read_selftest_{result}.o")
-    options = [option for name, macro in (("sheet_reference.h", "SHEET_FAULT"), ("text_reference.h", "TEXT_FAULT"),
-                                          ("read_reference.c", "READ_FAULT")) for option in harness.planted(name, macro)]
-    return harness.selftest("reading", seed, harness.short_test(sys.modules[__name__], seed, SELFTEST_SHEETS), build,
-                            options, RIGHT, SPOILED)
+    program = harness.build("read_selftest", "read_driver.c", "reference_store.c", "rule_reference.c", "read_reference.c")
+    faults = [fault for file, variable in (("sheet_reference.h", "SHEET_FAULT"), ("text_reference.h", "TEXT_FAULT"),
+                                           ("read_reference.c", "READ_FAULT")) for fault in harness.planted(file, variable)]
+    return harness.selftest("reading", seed, harness.short_test(sys.modules[__name__], seed, SELFTEST_SHEETS), program,
+                            faults, RIGHT, SPOILED)
 
 
 # Sends the whole test to the driver.

@@ -3,9 +3,9 @@
  *
  * It has the same face as the library and looks at item after item. The
  * store is judged by the other stand-in, tests/reference_store.c, which it is
- * linked with. It is slow and proves nothing. The self-test also builds it with
- * one fault planted, -DRULE_FAULT=ALWAYS_0 or another of those listed below or in
- * tests/rule_shape.h, and asks that the tests find it.
+ * linked with. It is slow and proves nothing. The self-test also runs it with
+ * one fault planted, one of those listed below or in tests/rule_shape.h, and asks
+ * that the tests find it.
  */
 #include "rule_shape.h"
 #include "saltreeve.h"
@@ -56,9 +56,7 @@ enum fault {
     ENDS_THE_PROGRAM          /* the first chain ends the program as if all were well */
 };
 
-#ifndef RULE_FAULT
-#define RULE_FAULT NO_FAULT
-#endif
+PLANTED(RULE_FAULT, NO_FAULT)
 
 enum { REFUSED_SIZE = -1, REFUSED_NOT_CLOSED = -2, REFUSED_MALFORMED = -3, REFUSED_NUMBER = -4 };
 enum { ITEMS = SALTREEVE_ITEMS };

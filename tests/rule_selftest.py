@@ -1,8 +1,8 @@
 """Shows that the test of rules by number can fail.
 
-Builds the stand-in tests/rule_reference.c as it is and with each fault that it or
-tests/rule_shape.h lists, gives the same commands to all of them, and asks that the
-sound one passes and that each faulty one is found out.
+Runs the stand-in tests/rule_reference.c as it is and with each fault that it or
+tests/rule_shape.h lists on the same commands, and asks that the sound one passes and that
+each faulty one is found out.
 """
 
 import harness
@@ -25,17 +25,9 @@ SPOILED = (
 )
 
 
-# Builds the driver with the stand-in, one fault planted or none.
-def build(options):
-    harness.compile_file("rule_reference.c", "rule_selftest_rules.o", options)
-    return harness.link([f"rule_selftest_{part}.o" for part in ("driver", "store", "rules")], "rule_selftest")
-
-
 # Tries the sound stand-in and all faulty ones; 0 if the test judges each rightly.
 def run(seed):
-    harness.BUILD.mkdir(parents=True, exist_ok=True)
-    harness.compile_file("rule_driver.c", "rule_selftest_driver.o")
-    harness.compile_file("reference_store.c", "rule_selftest_store.o")
-    options = harness.planted("rule_shape.h", "SHAPE_FAULT") + harness.planted("rule_reference.c", "RULE_FAULT")
+    program = harness.build("rule_selftest", "rule_driver.c", "reference_store.c", "rule_reference.c")
+    faults = harness.planted("rule_shape.h", "SHAPE_FAULT") + harness.planted("rule_reference.c", "RULE_FAULT")
     test = harness.short_test(rule_cases, seed, RULES, ROUNDS)
-    return harness.selftest("rule", seed, test, build, options, RIGHT, SPOILED)
+    return harness.selftest("rule", seed, test, program, faults, RIGHT, SPOILED)

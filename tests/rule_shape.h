@@ -1,12 +1,13 @@
 /*
  * How the stand-ins read the words of a rule and judge its form: refusals 3 and 4.
  *
- * The self-tests also build them with one fault planted here, -DSHAPE_FAULT=NODES_33_TAKEN
- * or another of those listed below, and ask that the tests find it.
+ * The self-tests also run them with one fault planted here, one of those listed below, and
+ * ask that the tests find it.
  */
 #ifndef RULE_SHAPE_H
 #define RULE_SHAPE_H
 
+#include "planted.h"
 #include "saltreeve.h"
 
 enum shape_fault {
@@ -42,9 +43,7 @@ enum shape_fault {
     ALWAYS_MALFORMED          /* every rule is refused with 3 */
 };
 
-#ifndef SHAPE_FAULT
-#define SHAPE_FAULT NO_SHAPE_FAULT
-#endif
+PLANTED(SHAPE_FAULT, NO_SHAPE_FAULT)
 
 enum { NODES = SALTREEVE_NODES };
 enum {

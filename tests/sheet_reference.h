@@ -3,13 +3,13 @@
  *
  * It reads a sheet line by line, asking for the numbers of refusal in rising order. The
  * store and the rules are left to the other stand-ins, tests/reference_store.c and
- * tests/rule_reference.c. It is slow and proves nothing. The self-tests also build it with
- * one fault planted, -DSHEET_FAULT=LINES_FROM_0 or another of those listed below, and ask
- * that the tests find it.
+ * tests/rule_reference.c. It is slow and proves nothing. The self-tests also run it with
+ * one fault planted, one of those listed below, and ask that the tests find it.
  */
 #ifndef SHEET_REFERENCE_H
 #define SHEET_REFERENCE_H
 
+#include "planted.h"
 #include "saltreeve.h"
 
 #include <string.h>
@@ -29,9 +29,7 @@ enum sheet_fault {
     LEFT_INVERSE_PASSED     /* `~` on the left of runder is passed over */
 };
 
-#ifndef SHEET_FAULT
-#define SHEET_FAULT NO_SHEET_FAULT
-#endif
+PLANTED(SHEET_FAULT, NO_SHEET_FAULT)
 
 enum {
     SHEET_BYTES = 32768, LINE_BYTES = 512, NAME_BYTES = 24, MOST_FIELDS = LINE_BYTES + 1, MOST_RULES = 64,

@@ -3,8 +3,8 @@
  * tried on.
  *
  * The sheet is read by tests/sheet_reference.h. It is slow and proves nothing. The
- * self-tests also build it with one fault planted, -DTEXT_FAULT=ALWAYS_TOTAL_0 or another
- * of those listed below, and ask that the tests find it.
+ * self-tests also run it with one fault planted, one of those listed below, and ask that
+ * the tests find it.
  */
 #ifndef TEXT_REFERENCE_H
 #define TEXT_REFERENCE_H
@@ -37,9 +37,7 @@ enum text_fault {
     WRITES_PAST_THE_ROOM    /* a byte after the room is written */
 };
 
-#ifndef TEXT_FAULT
-#define TEXT_FAULT NO_TEXT_FAULT
-#endif
+PLANTED(TEXT_FAULT, NO_TEXT_FAULT)
 
 enum { TEXT_BYTES = 16384, TEXT_TOO_LONG = -8 };
 

@@ -10,6 +10,7 @@ sound and faulty.
 """
 
 import itertools
+import os
 import random
 import subprocess
 import sys
@@ -244,16 +245,10 @@ def wrong_points():
     return wrong
 
 
-# Builds the driver with the stand-in, one fault planted or none.
-def build(options):
-    harness.compile_file("why_reference.c", "why_selftest_why.o", options)
-    return harness.link([f"why_selftest_{part}.o" for part in ("driver", "store", "rules", "why")], "why_selftest")
-
-
 # Gives the commands in a file to a program: what is wrong with what it prints. It is stopped at the first wrong answer.
-def wrong_of(program, commands, path):
+def wrong_of(program, environment, commands, path):
     with open(path) as given:
-        process = subprocess.Popen([str(program)], stdin=given, stdout=subprocess.PIPE, text=True)
+        process = subprocess.Popen([str(program)], stdin=given, stdout=subprocess.PIPE, text=True, env={**os.environ, **environment})
 
         # Ends the program, at once if something is wrong.
         def ended(is_wrong):
@@ -265,29 +260,28 @@ def wrong_of(program, commands, path):
         return wrong_run(commands, process.stdout, ended)
 
 
-# The options that plant each fault.
+# All faults that are planted.
 def all_faults():
-    return harness.planted("why_reference.c", "WHY_FAULT") + [f"-DSHEET_FAULT={fault}" for fault in READING_FAULTS]
+    return harness.planted("why_reference.c", "WHY_FAULT") + harness.chosen_faults(
+        harness.planted("sheet_reference.h", "SHEET_FAULT"), READING_FAULTS)
 
 
 # Tries the oracle, the two sound stand-ins and all faulty ones; 0 if each is judged rightly.
 def selftest(seed):
     wrong = [f"the oracle is wrong about {each}" for each in wrong_following(seed) + wrong_points()]
-    harness.BUILD.mkdir(parents=True, exist_ok=True)
-    for name, result in (("why_driver.c", "driver"), ("reference_store.c", "store"), ("rule_reference.c", "rules")):
-        harness.compile_file(name, f"why_selftest_{result}.o")
+    program = harness.build("why_selftest", "why_driver.c", "reference_store.c", "rule_reference.c", "why_reference.c")
     path = harness.BUILD / "why_selftest.commands"
     with open(path, "w") as file:
         commands = Commands(file.write)
         write_all(commands, seed, SELFTEST_SHEETS, small=True)
-    for options in ([], ["-DWHY_FROM_THE_END"]):
-        found = wrong_of(build(options), commands, path)
-        wrong += ["\n".join([f"a sound stand-in does not pass {options}", *found])] if found else []
+    for sound in ({}, {"FROM_THE_END": "1"}):
+        found = wrong_of(program, sound, commands, path)
+        wrong += ["\n".join([f"a sound stand-in does not pass {sound}", *found])] if found else []
     calls = commands.calls
     why_cases.require_covered(commands.seen, why_cases.ANSWER_CLASSES)
     faults = all_faults()
-    wrong += [f"a stand-in built with {option} passes" for option in faults
-              if not wrong_of(build([option]), commands, path)]
+    wrong += [f"a stand-in with the fault {fault.name} passes" for fault in faults
+              if not wrong_of(program, fault.environment, commands, path)]
     for line in wrong:
         print(f"why self-test: seed {seed}: {line}")
     if not wrong:
