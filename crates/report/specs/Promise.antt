@@ -1,7 +1,7 @@
 -- What is printed for a sheet, with a store of its own or a lent one, and what the lent store becomes.
 use mathlib.Core.Path.{_≡_}
 use mathlib.Core.List.{List, map}
-use Prim.Native.Nat.{ℕ, _≤_}
+use Prim.Native.Nat.{ℕ}
 use lib.ListN.{length, getD}
 use Rattle.store.specs.Layout.{size, width}
 use Rattle.sheet.specs.declared.Reading.{Reading}
@@ -22,7 +22,6 @@ pub record Pages (sheet room exit : List ℕ) (r : ℕ) : Type 0 where
   pub text : List ℕ
   pub prints : Prints sheet text
   pub wrote : Wrote room 0 text exit r
-  pub short : r ≤ textLimit
 
 -- the text for a sheet and the store s: what is printed for the sheet; where s has another length than a store, that this is refused by 1
 pub data PrintsIn (sheet s : List ℕ) : List ℕ → Type 0 where
@@ -40,4 +39,3 @@ pub record PagesIn (sheet s t room exit : List ℕ) (r : ℕ) : Type 0 where
   pub prints : PrintsIn sheet s text
   pub left : ReadInto sheet s t
   pub wrote : Wrote room 0 text exit r
-  pub short : r ≤ textLimit

@@ -2,6 +2,6 @@
 pub mod Lines
 pub mod Written
 pub mod Tally
-pub mod Short
 pub mod Printed
 pub mod Page
+pub mod Short

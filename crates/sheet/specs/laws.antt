@@ -7,6 +7,7 @@ pub mod Settled
 pub mod Pass
 pub mod Few
 pub mod Slight
+pub mod Refused
 pub mod Count
 pub mod Unique
 pub mod Order

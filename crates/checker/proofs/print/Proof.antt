@@ -3,6 +3,7 @@ use mathlib.Core.Path.{sym}
 use lib.Seq.{length-take-le}
 use borrow.Author.Needs.{needs}
 use native.Mathlib.Omega.{arith}
+use Rattle.report.specs.laws.Short.{pages-short}
 use Rattle.checker.proofs.print.Statement.{statement}
 use Rattle.checker.proofs.print.Tie as tie
 
@@ -19,7 +20,7 @@ array-share-prefix-room : tie.Need-array-share-prefix-room
 array-share-prefix-room c = search needs
 
 slice-aggregate-write-all : tie.Need-slice-aggregate-write-all
-slice-aggregate-write-all c = sym (length-take-le _ _ (omega (arith, (c .before .before .page .ensures .short), (c .before .before .page .kept .1 .0))))
+slice-aggregate-write-all c = sym (length-take-le _ _ (omega (arith, pages-short (c .before .before .page .ensures), (c .before .before .page .kept .1 .0))))
 
 write-all-requires : tie.Need-write-all-requires
 write-all-requires c κs = search needs

@@ -2,8 +2,7 @@
 use mathlib.Core.Path.{_≡_, refl, sym, ap, _∙_, subst}
 use mathlib.Core.Bool.{true}
 use mathlib.Core.List.{List, [], _∷_, _++_}
-use Prim.Native.Nat.{ℕ, _+_, _≤_}
-use native.Mathlib.Omega.{arith}
+use Prim.Native.Nat.{ℕ, _+_}
 use borrow.Author.Tests.{ne-eqb}
 use lib.ListN.{length}
 use lib.Seq.{sets}
@@ -38,8 +37,8 @@ turn-printed {q = q} w f c m z = let y = turn-rules w f in printed-more (foundRu
 
 module _ {sheet t : List ℕ} {e : Ended} (w : Filled sheet t e) where
   -- a refused sheet
-  pub page-refused : {room exit : List ℕ} {r : ℕ} → (e .why ≡ 0 → ⊥) → Wrote room 0 (refusedText (e .line) (e .why)) exit r → r ≤ 0 + 50 → Pages sheet room exit r
-  page-refused z h l = record { text = refusedText (e .line) (e .why); prints = refused {n = e .line} {k = e .why} {x = w .opens .said} (w .opens .ends ∙ rw (ne-eqb _ _ z)); wrote = h; short = omega arith }
+  pub page-refused : {room exit : List ℕ} {r : ℕ} → (e .why ≡ 0 → ⊥) → Wrote room 0 (refusedText (e .line) (e .why)) exit r → Pages sheet room exit r
+  page-refused z h = record { text = refusedText (e .line) (e .why); prints = refused {n = e .line} {k = e .why} {x = w .opens .said} (w .opens .ends ∙ rw (ne-eqb _ _ z)); wrote = h }
 
   -- an accepted one
   module _ (z : e .why ≡ 0) where
@@ -50,7 +49,7 @@ module _ {sheet t : List ℕ} {e : Ended} (w : Filled sheet t e) where
     page-accepted u j h =
         let o = opens-outcome (w .opens) z in
         let a = printed-all o u (opens-held (w .opens) z) (j .printed (w .opens .said) o (w .opens .names)) h in
-        record { text = a .0; prints = a .1; wrote = a .2; short = omega (arith, a .2 .next, a .3) }
+        record { text = a .0; prints = a .1; wrote = a .2 }
 
 -- ---- in a lent store
 
@@ -62,8 +61,8 @@ leaves-read {s = s} {t = t} l v h (accepted {x = x} {fs = fs} o w d f) =
     record { answer = _; reads = acceptedRead l o e (subst (λ (z : List ℕ). FindingsIn x z fs) (keeps-unique w v d e) f) }
 
 -- a store of another length
-pub page-size : {sheet s room exit : List ℕ} {r : ℕ} → ¬ (length s ≡ size width) → Wrote room 0 (refusedText 0 1) exit r → r ≤ 0 + 50 → PagesIn sheet s s room exit r
-page-size z h l = record { text = refusedText 0 1; prints = wrong-size z; left = record { answer = reading.Refused 0 1; reads = wrong-read z refl }; wrote = h; short = omega arith }
+pub page-size : {sheet s room exit : List ℕ} {r : ℕ} → ¬ (length s ≡ size width) → Wrote room 0 (refusedText 0 1) exit r → PagesIn sheet s s room exit r
+page-size z h = record { text = refusedText 0 1; prints = wrong-size z; left = record { answer = reading.Refused 0 1; reads = wrong-read z refl }; wrote = h }
 
 -- a store that the sheet was read into
 pub page-read : {sheet s t room exit : List ℕ} {e : Ended} {r : ℕ} → length s ≡ size width → Words 64 t → Opens sheet s t e → Pages sheet room exit r → PagesIn sheet s t room exit r
@@ -73,12 +72,11 @@ page-read {s = s} {t = t} l v w p =
       prints = printed l (p .prints);
       left = leaves-read l v (subst (λ (z : Outcome). Leaves z s t) (sym (w .ends)) (w .leaves)) (p .prints);
       wrote = p .wrote;
-      short = p .short;
     }
 
 -- the text in a store of the right length is that of the sheet
 pub page-own : {sheet s t room exit : List ℕ} {r : ℕ} → length s ≡ size width → PagesIn sheet s t room exit r → Pages sheet room exit r
-page-own {sheet} {s} l p = record { text = p .text; prints = own (p .prints); wrote = p .wrote; short = p .short }
+page-own {sheet} {s} l p = record { text = p .text; prints = own (p .prints); wrote = p .wrote }
   where
     own : {text : List ℕ} → PrintsIn sheet s text → Prints sheet text
     own (wrong-size z) = absurd (z l)

@@ -1,7 +1,7 @@
 -- From the rules that are judged one after the other to the printed text of the sheet. Assumes nothing.
 use mathlib.Core.Path.{_≡_, refl, sym, ap, ap₂, _∙_, subst}
 use mathlib.Core.List.{List, [], _∷_, _++_, map}
-use Prim.Native.Nat.{ℕ, _+_, _-_, _≤_}
+use Prim.Native.Nat.{ℕ, _+_, _-_}
 use native.Mathlib.Omega.{arith}
 use lib.ListN.{length, getD, take, length-append}
 use Rattle.row.specs.Bit.{Words}
@@ -15,10 +15,9 @@ use Rattle.sheet.specs.Said.{Said, SheetRule, outcome}
 use Rattle.sheet.specs.Said.Outcome.{accepted as acceptedSheet}
 use Rattle.report.specs.declared.Tally.{Tally}
 use Rattle.report.specs.own.Lines.{Printed, Tallied, linesText}
-use Rattle.report.specs.Promise.{lineOf, textLimit}
+use Rattle.report.specs.Promise.{lineOf}
 use Rattle.sheet.specs.laws.Count.{findings-snoc}
 use Rattle.report.specs.laws.Lines.{findings-more, rule-lines}
-use Rattle.report.specs.laws.Short.{text-short}
 
 -- the line of the rule after the others
 line-at : (done rest : List SheetRule) (r : SheetRule) → getD (map (λ (q : SheetRule). q .line) (done ++ r ∷ rest)) (length done) 0 ≡ r .line
@@ -57,10 +56,9 @@ printed-more {x} {t} {done} {room} {mid} {exit} {at} {b} {r} q rest e w z = reco
 
 -- all rules are judged and the total is written: that is what is printed of the sheet
 pub printed-all : {sheet : List ℕ} {x : Said} {t room mid exit : List ℕ} {b : Tally} {at r : ℕ} → outcome sheet ≡ acceptedSheet x → Words 64 t → Held x t → Printed x t (x .rules) room at mid b
-    → Wrote mid (b .at) (totalText (b .total)) exit r → (text : List ℕ) × Prints sheet text × Wrote room at text exit r × (length text ≤ textLimit)
+    → Wrote mid (b .at) (totalText (b .total)) exit r → (text : List ℕ) × Prints sheet text × Wrote room at text exit r
 printed-all {sheet} {x} {t} {room} {mid} {exit} {b} {at} {r} o words held w z = (
   findingsText x (take printLimit (w .list)) ++ totalText (length (w .list)),
   accepted o words held (w .findings),
   wrote-then (w .wrote) (subst (λ (m : ℕ). Wrote mid (b .at) (totalText m) exit r) (w .total) z),
-  text-short sheet o held (w .findings),
 )

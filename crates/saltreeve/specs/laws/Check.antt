@@ -12,8 +12,9 @@ use Rattle.text.specs.Text.{Wrote}
 use Rattle.text.specs.laws.Text.{wrote-text, wrote-whole}
 use Rattle.sheet.specs.Promise.{Prints}
 use Rattle.sheet.specs.laws.Unique.{prints-unique}
-use Rattle.report.specs.Promise.{Pages, PagesIn, PrintsIn}
+use Rattle.report.specs.Promise.{Pages, PagesIn, PrintsIn, textLimit}
 use Rattle.report.specs.laws.Page.{prints-in-unique, read-into-unique}
+use Rattle.report.specs.laws.Short.{prints-in-short, prints-short}
 use Rattle.saltreeve.specs.Check.{Checks, ChecksIn}
 use Rattle.saltreeve.specs.Room.{InRoom}
 use Rattle.saltreeve.specs.Room.InRoom.{too-long, written}
@@ -86,3 +87,19 @@ checks-unique = room-unique (λ t u a b. prints-unique a b)
 -- the check in a lent store: one store, one room and one number
 pub check-in-unique : {sheet s t u room exit other : List ℕ} {r q : ℤ} → Words 64 t → Words 64 u → ChecksIn sheet s t room exit r → ChecksIn sheet s u room other q → (t ≡ u) × (exit ≡ other) × (r ≡ q)
 check-in-unique v w a b = let e = room-unique (λ t u x y. prints-in-unique x y) (a .text) (b .text) in (read-into-unique v w (a .store) (b .store), e .0, e .1)
+
+-- ---- a room that always suffices
+
+-- where no text is longer, a room of so many bytes has the text
+room-written : {Text : List ℕ → Type 0} {room exit : List ℕ} {r : ℤ} → ((t : List ℕ) → Text t → length t ≤ textLimit) → textLimit ≤ length room → InRoom Text room exit r
+    → (t : List ℕ) × Text t × (exit ≡ t ++ drop (length t) room) × (r ≡ pos (length t))
+room-written short l (too-long {text = t} h g x) = absurd (omega (arith, short t h))
+room-written short l (written {text = t} h g x) = (t, h, x, refl)
+
+-- the text of a sheet is written
+pub check-written : {sheet room exit : List ℕ} {r : ℤ} → textLimit ≤ length room → Checks sheet room exit r → (t : List ℕ) × Prints sheet t × (exit ≡ t ++ drop (length t) room) × (r ≡ pos (length t))
+check-written {sheet} = room-written (λ t h. prints-short sheet h)
+
+-- in a lent store too
+pub check-in-written : {sheet s t room exit : List ℕ} {r : ℤ} → textLimit ≤ length room → ChecksIn sheet s t room exit r → (u : List ℕ) × PrintsIn sheet s u × (exit ≡ u ++ drop (length u) room) × (r ≡ pos (length u))
+check-in-written {sheet} l h = room-written (λ t p. prints-in-short sheet p) l (h .text)

@@ -97,7 +97,7 @@ module _ (t : ℕ) (s : List ℕ) (i : ℕ) where
   count-out h = rw (drop-of-length-le s h)
 
 -- one more than there are bytes, at the most
-split-few : (t : ℕ) (s : List ℕ) → length (split t s) ≤ length s + 1
+pub split-few : (t : ℕ) (s : List ℕ) → length (split t s) ≤ length s + 1
 unfolding split
 split-few t [] = omega arith
 split-few t (b ∷ s) = at (eqb b t) (split-few t s)

@@ -27,7 +27,7 @@ total [] = 0
 total (p ∷ ps) = suc (length p) + total ps
 
 -- there are no more parts than that
-pub total-most : (ps : List (List ℕ)) → length ps ≤ total ps
+total-most : (ps : List (List ℕ)) → length ps ≤ total ps
 total-most [] = omega arith
 total-most (p ∷ ps) = let h = total-most ps in omega arith
 
@@ -41,7 +41,7 @@ split-some t (b ∷ s) = go (eqb b t) (split-some t s)
     go true z = ([], split t s, refl)
     go false z = (b ∷ z .0, z .1, ap (onto b) (z .2))
 
-pub split-total : (t : ℕ) (s : List ℕ) → total (split t s) ≡ suc (length s)
+split-total : (t : ℕ) (s : List ℕ) → total (split t s) ≡ suc (length s)
 unfolding split
 split-total t [] = refl
 split-total t (b ∷ s) = go (eqb b t) (split-some t s) (split-total t s)

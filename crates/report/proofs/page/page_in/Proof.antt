@@ -11,7 +11,7 @@ same-length : tie.Need-same-length
 same-length c = search needs
 
 returns : tie.Need-returns
-returns c = page-size (c .before .before .before .before .if1 .taken) (c .before .before .refused .ensures .0) (c .before .before .refused .ensures .1)
+returns c = page-size (c .before .before .before .before .if1 .taken) (c .before .before .refused .ensures .0)
 
 fill-requires : tie.Need-fill-requires
 fill-requires c κs = search needs

@@ -23,7 +23,7 @@ same-length-2 : tie.Need-same-length-2
 same-length-2 c = search needs
 
 returns-2 : tie.Need-returns-2
-returns-2 c = page-refused (c .before .before .before .before .before .before .before .before .before .pre) (c .before .before .before .before .if1 .left) (c .before .before .refused .ensures .0) (c .before .before .refused .ensures .1)
+returns-2 c = page-refused (c .before .before .before .before .before .before .before .before .before .pre) (c .before .before .before .before .if1 .left) (c .before .before .refused .ensures .0)
 
 pub print-ended-spec : {M : Type 1} → statement M
 print-ended-spec =

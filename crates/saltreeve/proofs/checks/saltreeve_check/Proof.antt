@@ -2,6 +2,7 @@
 use native.Mathlib.Omega.{arith}
 use mir.Syntax.{w64}
 use mir.ValLaws.{toZ-ofZ}
+use Rattle.report.specs.laws.Short.{pages-short}
 use Rattle.saltreeve.specs.laws.Check.{check-by}
 use borrow.Author.Needs.{needs}
 use Rattle.saltreeve.proofs.checks.saltreeve_check.Statement.{statement}
@@ -17,13 +18,13 @@ slice-aggregate-hand : tie.Need-slice-aggregate-hand
 slice-aggregate-hand c = search needs
 
 hand-requires : tie.Need-hand-requires
-hand-requires c κs = search needs
+hand-requires c κs = let z = pages-short (c .before .before .before .page .ensures) in (z, omega arith)
 
 same-length : tie.Need-same-length
 same-length c = search needs
 
 returns : tie.Need-returns
-returns c = rw (toZ-ofZ w64 (c .before .before .hand .result) (record { sfits = omega (arith, c .before .before .hand .ok) })) (check-by (c .before .before .before .before .before .before .page .ensures) (omega (arith, c .before .before .before .before .before .before .page .ensures .short)) (c .before .before .hand .ensures))
+returns c = rw (toZ-ofZ w64 (c .before .before .hand .result) (record { sfits = omega (arith, c .before .before .hand .ok) })) (check-by (c .before .before .before .before .before .before .page .ensures) (omega (arith, pages-short (c .before .before .before .before .before .before .page .ensures))) (c .before .before .hand .ensures))
 
 pub saltreeve-check-spec : {M : Type 1} → statement M
 saltreeve-check-spec =
