@@ -41,7 +41,7 @@ split-some t (b ∷ s) = go (eqb b t) (split-some t s)
     go true z = ([], split t s, refl)
     go false z = (b ∷ z .0, z .1, ap (onto b) (z .2))
 
-split-total : (t : ℕ) (s : List ℕ) → total (split t s) ≡ suc (length s)
+pub split-total : (t : ℕ) (s : List ℕ) → total (split t s) ≡ suc (length s)
 unfolding split
 split-total t [] = refl
 split-total t (b ∷ s) = go (eqb b t) (split-some t s) (split-total t s)
