@@ -11,8 +11,6 @@ pub mod Included
 pub mod FreshLaws
 pub mod UnderLaws
 pub mod InLaws
-pub mod LinkRows
 pub mod LinkLaws
 pub mod SameLaws
-pub mod RoleWord
 pub mod RoleLaws

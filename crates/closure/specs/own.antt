@@ -1,2 +1,2 @@
--- What each kind of statement does to the store's words: no promise of an entry point mentions it.
-pub mod Step
+-- What adding a statement leaves: no promise of an entry point mentions it.
+pub mod Applied

@@ -1,0 +1,3 @@
+-- What is proved of the words that the statements change.
+pub mod LinkRows
+pub mod RoleWord
