@@ -41,8 +41,12 @@ pub data Totals (W : ℕ) (n : Counts) (u : Rule) (s : List ℕ) : Total → Typ
   refused : {k : RuleRefusal} → Lowest (RuleFault W n u s) (number k) → Totals W n u s (Refused k)
   counted : {fs : List Finding} → Judged W n u s → Findings (Holds W n s) n 0 u fs → Totals W n u s (Count (length fs))
 
+-- a list that was lent, afterwards: the first of the findings as far as it reaches, then as it was
+abbrev pub filled : List Finding → List Finding → List Finding
+filled fs before = take (min (length fs) (length before)) fs ++ drop (min (length fs) (length before)) before
+
 -- the findings of a rule in the store s, written into a list: the first ones as far as it reaches, what is past them as it was; the total counts all
 pub data Lists (W : ℕ) (n : Counts) (k : ℕ) (u : Rule) (s : List ℕ) (before after : List Finding) : Total → Type 0 where
   refused : {r : RuleRefusal} → Lowest (RuleFault W n u s) (number r) → after ≡ before → Lists W n k u s before after (Refused r)
   listed : {fs : List Finding} → Judged W n u s → Findings (Holds W n s) n k u fs
-      → after ≡ take (min (length fs) (length before)) fs ++ drop (min (length fs) (length before)) before → Lists W n k u s before after (Count (length fs))
+      → after ≡ filled fs before → Lists W n k u s before after (Count (length fs))

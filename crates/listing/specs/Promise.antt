@@ -1,10 +1,11 @@
 -- What reading a sheet with a list of findings promises, for every sheet, every store and every list.
 use mathlib.Core.Path.{_≡_}
-use mathlib.Core.List.{List, _++_}
-use Prim.Native.Nat.{ℕ, min}
-use lib.ListN.{length, take, drop}
+use mathlib.Core.List.{List}
+use Prim.Native.Nat.{ℕ}
+use lib.ListN.{length}
 use Rattle.store.specs.Layout.{size, width}
 use Rattle.rule.specs.declared.Finding.{Finding}
+use Rattle.judge.specs.Promise.{filled}
 use Rattle.sheet.specs.declared.Reading.{Reading}
 use Rattle.sheet.specs.declared.Reading.the-variants.{Accepted, Refused}
 use Rattle.field.specs.Names.{countsOf}
@@ -17,5 +18,5 @@ use Rattle.sheet.specs.Said.Outcome.{accepted as acceptedSheet}
 pub data ReadsInto (sheet s t : List ℕ) (before after : List Finding) : Reading → Type 0 where
   refused : {n k : ℕ} → Reads sheet s t (Refused n k) → after ≡ before → ReadsInto sheet s t before after (Refused n k)
   accepted : {x : Said} {fs : List Finding} → length s ≡ size width → outcome sheet ≡ acceptedSheet x → Held x t → FindingsIn x t fs
-      → after ≡ take (min (length fs) (length before)) fs ++ drop (min (length fs) (length before)) before
+      → after ≡ filled fs before
       → ReadsInto sheet s t before after (Accepted (countsOf (x .names)) (length (x .rules)) (length fs))

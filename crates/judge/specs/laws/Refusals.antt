@@ -1,10 +1,10 @@
 -- Which number applies to a rule, and that each entry point allows one result. Assumes nothing.
 use mathlib.Core.Path.{_≡_, refl, sym, ap, _∙_}
 use mathlib.Core.Logic.{_⊎_, inl, inr, ⊎-elim}
-use mathlib.Core.List.{List, _++_}
-use Prim.Native.Nat.{ℕ, min}
+use mathlib.Core.List.{List}
+use Prim.Native.Nat.{ℕ}
 use native.Mathlib.Omega.{arith}
-use lib.ListN.{length, take, drop}
+use lib.ListN.{length}
 use Rattle.logic.specs.Lowest.{Lowest, NoneApplies}
 use Rattle.logic.specs.laws.Lowest.{lowest-unique}
 use Rattle.store.specs.declared.Counts.{Counts}
@@ -16,7 +16,7 @@ use Rattle.judge.specs.declared.RuleRefusal.the-variants.{Size, NotClose
 use Rattle.judge.specs.declared.Total.{Total}
 use Rattle.judge.specs.declared.Total.the-variants.{Count, Refused}
 use Rattle.rule.specs.Form.{WellFormed, RuleWithin}
-use Rattle.judge.specs.Promise.{number, RuleFault, Judged, Totals, Lists}
+use Rattle.judge.specs.Promise.{filled, number, RuleFault, Judged, Totals, Lists}
 use Rattle.judge.specs.Promise.RuleFault.{wrong-size, not-closed, malformed, wrong-number}
 use Rattle.judge.specs.Promise.Totals.{refused as total-refused, counted}
 use Rattle.judge.specs.Promise.Lists.{refused as list-refused, listed}
@@ -104,6 +104,6 @@ lists-unique (list-refused a e) (listed d f g) = absurd (judged-lowest d a)
 lists-unique (listed d f g) (list-refused a e) = absurd (judged-lowest d a)
 lists-unique {before = before} (listed d f g) (listed d′ f′ g′) =
     let e = findings-unique f f′ in (
-      g ∙ ap (λ (fs : List Finding). take (min (length fs) (length before)) fs ++ drop (min (length fs) (length before)) before) e ∙ sym g′,
+      g ∙ ap (λ (fs : List Finding). filled fs before) e ∙ sym g′,
       ap (λ (fs : List Finding). Count (length fs)) e,
     )

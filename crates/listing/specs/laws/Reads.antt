@@ -1,11 +1,12 @@
 -- From what the writer does to the promise of reading a sheet with a list; and any two allowed outcomes are equal. Assumes nothing.
 use mathlib.Core.Path.{_≡_, sym, ap, _∙_, subst}
 use mathlib.Core.List.{List, _++_}
-use Prim.Native.Nat.{ℕ, min}
+use Prim.Native.Nat.{ℕ}
 use native.Mathlib.Omega.{arith}
 use lib.ListN.{length, take, drop}
 use Rattle.row.specs.Bit.{Words}
 use Rattle.rule.specs.declared.Finding.{Finding}
+use Rattle.judge.specs.Promise.{filled}
 use Rattle.sheet.specs.declared.Reading.{Reading}
 use Rattle.sheet.specs.Promise.{Reads}
 use Rattle.sheet.specs.Promise.Reads.{accepted as acceptedRead}
@@ -43,7 +44,7 @@ into-list v w z (refused r e) (refused q f) = e ∙ sym f
 into-list v w z (refused r e) (accepted l o h g f) = absurd (omega (arith, ap isRefused z))
 into-list v w z (accepted l o h g f) (refused r e) = absurd (omega (arith, ap isRefused z))
 into-list {before = before} v w z (accepted l o h g e) (accepted k i p m f) =
-    e ∙ ap (λ (fs : List Finding). take (min (length fs) (length before)) fs ++ drop (min (length fs) (length before)) before) (found-unique (ap saidOf (sym i ∙ o)) v w h p g m .1) ∙ sym f
+    e ∙ ap (λ (fs : List Finding). filled fs before) (found-unique (ap saidOf (sym i ∙ o)) v w h p g m .1) ∙ sym f
 
 -- one answer, one store and one list afterwards
 pub into-unique : {sheet s t u : List ℕ} {before after other : List Finding} {r q : Reading} → Words 64 t → Words 64 u → ReadsInto sheet s t before after r → ReadsInto sheet s u before other q
