@@ -1,4 +1,4 @@
--- The examples of document 01 that are marked P, as one list: a field each, in the document's words.
+-- The examples of document 01 that are marked P, as one list: a field each, in the document's words; one field more, `five-items-room`, says what a shorter room gives.
 use mathlib.Core.Path.{_≡_}
 use mathlib.Core.Bool.{true, false}
 use mathlib.Core.List.{List, [], _∷_}
@@ -38,7 +38,7 @@ use Rattle.text.specs.Date.{dateShaped}
 abbrev pub twoItems : Counts
 twoItems = record { items = 2; concepts = 0; roles = 0 }
 
--- a rule `ref R` of whatever role, with no nodes
+-- a rule `ref R` of whatever role
 pub record IsRef (u : Rule) : Type 0 where
   pub role : RoleUse
   pub head : u .head ≡ Ref role

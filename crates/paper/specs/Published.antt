@@ -1,4 +1,5 @@
--- That the findings are the published reading: a field each, for a list of statements, and for a store that keeps what follows from statements.
+-- That the findings are the published reading: a field each, for a list of statements, and for a store that keeps what follows from statements;
+-- so also for a closed store, with its own cells as those given.
 use mathlib.Core.Path.{_≡_}
 use mathlib.Core.Logic.{_↔_}
 use mathlib.Core.List.{List}

@@ -79,7 +79,7 @@ read (suc left) n fs = byWord n (read left n) (operatorOf (at 0 fs)) (at 0 fs) (
 abbrev pub readExpr : Names → List Field → Read
 readExpr n fs = read (length fs) n fs
 
--- ---- how a rule is laid out as nodes. From here to `ruleOf` no belief is needed: the rule of an accepted line means what its fields mean (Meant.antt; proved in laws/Meant.antt, rule-meant)
+-- ---- how a rule is laid out as nodes. From here to the end of `ruleOf` no belief is needed: the rule of an accepted line means what its fields mean (Meant.antt; proved in laws/Meant.antt, rule-meant)
 
 -- how many nodes an expression has
 unfoldable pub size : Expr → ℕ
@@ -141,6 +141,8 @@ ruleOf n rule.Rel fs = bare (head.Rel (roleUseOf n (at 0 fs)) (itemOf n (at 1 fs
 ruleOf n rule.NoRel fs = bare (head.NoRel (roleUseOf n (at 0 fs)) (itemOf n (at 1 fs)) (itemOf n (at 2 fs)))
 ruleOf n rule.Same fs = bare (head.Same (itemOf n (at 0 fs)) (itemOf n (at 1 fs)))
 ruleOf n rule.Differ fs = bare (head.Differ (itemOf n (at 0 fs)) (itemOf n (at 1 fs)))
+
+-- ---- the statement of a line
 
 -- the statement that the fields after the word say; `~` on one side of `runder`, and not on both, makes it a step to the inverse
 abbrev pub statementOf : Names → StatementWord → List Field → Statement

@@ -40,6 +40,7 @@ pub data Stating : List ℕ → Type 0 where
   statement : {l : List ℕ} {w : StatementWord} → formOf (fields l) ≡ form.Statement w → Stating l
 
 -- Two sheets with the same lines but for a stretch of statement lines: there each has the lines of the other, in another order or said again.
+-- first: line 1; front and back: the lines that stay; middle, middle′: the statement lines, empty ones among them
 pub record Rearranged (sheet other : List ℕ) : Type 0 where
   pub first : List ℕ
   pub front : List (List ℕ)
