@@ -7,10 +7,9 @@ use lib.ListN.{length, drop}
 use Rattle.store.specs.Cell.{Cell}
 use Rattle.store.specs.Cell.Cell.{In}
 use Rattle.store.specs.Layout.{Holds, width}
-use Rattle.report.specs.Promise.{lineOf}
 use Rattle.field.specs.Names.{countsOf}
 use Rattle.sheet.specs.Promise.{Held, refusedText}
-use Rattle.sheet.specs.Said.{Said, SheetStatement, outcome}
+use Rattle.sheet.specs.Said.{Said, SheetStatement, lineOf, outcome}
 use Rattle.sheet.specs.Said.Outcome.{accepted, refused as refusedAt}
 use Rattle.why.specs.Finding.{BrokenSub, notBroken}
 use Rattle.why.specs.Listed.{linesOf}

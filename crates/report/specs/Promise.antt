@@ -1,17 +1,12 @@
 -- What is printed for a sheet, with a store of its own or a lent one, and what the lent store becomes.
 use mathlib.Core.Path.{_≡_}
-use mathlib.Core.List.{List, map}
+use mathlib.Core.List.{List}
 use Prim.Native.Nat.{ℕ}
-use lib.ListN.{length, getD}
+use lib.ListN.{length}
 use Rattle.store.specs.Layout.{size, width}
 use Rattle.sheet.specs.declared.Reading.{Reading}
 use Rattle.sheet.specs.Promise.{Prints, Reads, refusedText}
-use Rattle.sheet.specs.Said.{Said, SheetRule}
 use Rattle.text.specs.Text.{Wrote}
-
--- the line number of the rule with the number k
-abbrev pub lineOf : Said → ℕ → ℕ
-lineOf x k = getD (map (λ (r : SheetRule). r .line) (x .rules)) k 0
 
 -- no text has more bytes: 200 lines of findings, of 64 bytes at the most, and the last one; or the line of a refused sheet
 abbrev pub textLimit : ℕ

@@ -1,7 +1,7 @@
 -- What reading a sheet promises: what the lent store holds afterwards, the findings of the sheet's rules, and the printed text.
 use mathlib.Core.Path.{_≡_}
 use mathlib.Core.Bool.{Bool, true, false}
-use mathlib.Core.List.{List, [], _∷_, _++_, map}
+use mathlib.Core.List.{List, [], _∷_, _++_}
 use Prim.Native.Nat.{ℕ, zero, suc}
 use lib.ListN.{length, getD, take, replicate}
 use Rattle.row.specs.Bit.{Words}
@@ -10,7 +10,6 @@ use Rattle.text.specs.Text.{decimal}
 use Rattle.store.specs.declared.Counts.{Counts}
 use Rattle.store.specs.Cell.{Cell}
 use Rattle.store.specs.Layout.{Holds, size, width}
-use Rattle.closure.specs.Lines.{Stated}
 use Rattle.store.specs.Keeps.{Keeps}
 use Rattle.rule.specs.declared.Finding.{Finding}
 use Rattle.rule.specs.declared.Second.{Second}
@@ -20,7 +19,7 @@ use Rattle.sheet.specs.declared.Reading.{Reading}
 use Rattle.sheet.specs.declared.Reading.the-variants as reading
 use Rattle.line.specs.Fault.{begun}
 use Rattle.field.specs.Names.{Names, countsOf}
-use Rattle.sheet.specs.Said.{Said, SheetRule, Outcome, marksOf, outcome, statementsOf}
+use Rattle.sheet.specs.Said.{Said, SheetRule, StatedIn, Outcome, lineOf, marksOf, outcome}
 use Rattle.sheet.specs.Said.Outcome.{refused as refusedAt, accepted as acceptedSheet}
 
 -- the most findings that are printed
@@ -29,7 +28,7 @@ printLimit = 200
 
 -- the store holds exactly what follows from what was said
 abbrev pub Held : Said → List ℕ → Type 0
-Held x t = Keeps width (countsOf (x .names)) (Stated (statementsOf (x .statements))) t
+Held x t = Keeps width (countsOf (x .names)) (StatedIn x) t
 
 -- the store at a faulty line: all zero until the first accepted statement or rule makes it fresh
 abbrev pub Stopped : Bool → Said → List ℕ → Type 0
@@ -70,7 +69,7 @@ secondText n (second.Item j) = tabbed (getD (n .items) (j .0) [])
 -- `finding`, the rule's line number, item, second item if any
 unfoldable pub findingText : Said → Finding → List ℕ
 findingText x f =
-    bytes "finding" ++ tabbed (decimal (getD (map (λ (r : SheetRule). r .line) (x .rules)) (f .rule) 0)) ++ tabbed (getD (x .names .items) (f .item .0) [])
+    bytes "finding" ++ tabbed (decimal (lineOf x (f .rule))) ++ tabbed (getD (x .names .items) (f .item .0) [])
     ++ secondText (x .names) (f .second) ++ (10 ∷ [])
 
 -- a line for each

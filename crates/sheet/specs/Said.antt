@@ -1,11 +1,14 @@
 -- What a sheet says, line by line, up to its end or to its first faulty line.
+use mathlib.Core.Path.{_≡_}
 use mathlib.Core.Bool.{cond, not}
 use mathlib.Core.List.{List, [], _∷_, _++_, map}
 use Prim.Native.Nat.{ℕ, _+_}
 use lib.Dec.{leb, eqb}
-use lib.ListN.{length}
+use lib.ListN.{length, getD}
 use Rattle.text.specs.Split.{fields, lines}
 use Rattle.store.specs.declared.Statement.{Statement}
+use Rattle.store.specs.Cell.{Cell}
+use Rattle.closure.specs.Lines.{Stated}
 use Rattle.rule.specs.declared.Rule.{Rule}
 use Rattle.field.specs.declared.Form.{Form}
 use Rattle.field.specs.declared.Form.the-variants as form
@@ -34,6 +37,22 @@ pub record Said : Type 0 where
   pub names : Names
   pub statements : List SheetStatement
   pub rules : List SheetRule
+
+-- the cells that the statements of a sheet state
+abbrev pub StatedIn : Said → Cell → Type 0
+StatedIn x = Stated (statementsOf (x .statements))
+
+-- u is the rule of the sheet x with the number k, from 0
+pub record RuleAt (x : Said) (k : ℕ) (u : Rule) : Type 0 where
+  pub before : List SheetRule
+  pub line : ℕ
+  pub after : List SheetRule
+  pub is : x .rules ≡ before ++ record { line = line; rule = u } ∷ after
+  pub place : k ≡ length before
+
+-- the line number of the rule with the number k
+abbrev pub lineOf : Said → ℕ → ℕ
+lineOf x k = getD (map (λ (r : SheetRule). r .line) (x .rules)) k 0
 
 -- how far the sheet has come
 abbrev pub marksOf : Said → Marks

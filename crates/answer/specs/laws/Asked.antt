@@ -23,7 +23,7 @@ use Rattle.line.specs.Fault.{lineFault}
 use Rattle.field.specs.Names.{Names}
 use Rattle.field.specs.Words.{at, Field, bodyOf, formOf}
 use Rattle.saying.specs.Read.{itemOf}
-use Rattle.sheet.specs.Said.{Said, SheetRule, outcome}
+use Rattle.sheet.specs.Said.{Said, SheetRule, lineOf, outcome}
 use Rattle.sheet.specs.Said.Outcome.{accepted}
 use Rattle.field.specs.own.Table.{namesOf}
 use Rattle.sheet.specs.own.Pass.{foundRule}
@@ -31,7 +31,6 @@ use Rattle.sheet.specs.laws.Count.{Turn, turn-rules}
 use Rattle.why.specs.declared.Sides.{Sides}
 use Rattle.why.specs.Finding.{BrokenSub}
 use Rattle.why.specs.own.Sides.{BrokenIf}
-use Rattle.report.specs.Promise.{lineOf}
 use Rattle.answer.specs.declared.CellAsked.{CellAsked}
 use Rattle.answer.specs.declared.FindingAsked.{FindingAsked}
 use Rattle.answer.specs.own.Asked.{Asking, BreakingIf, BrokenIn, FindingIf, FindingIn, FormAsked, SidesIf}

@@ -21,7 +21,7 @@ use Rattle.field.specs.declared.Table.{Table}
 use Rattle.field.specs.Names.{Names, countsOf}
 use Rattle.sheet.specs.own.Pass.{Judges}
 use Rattle.sheet.specs.Promise.{refusedText}
-use Rattle.sheet.specs.Said.{Said, SheetStatement, outcome}
+use Rattle.sheet.specs.Said.{Said, SheetStatement, lineOf, outcome}
 use Rattle.saying.specs.Read.{statementOf}
 use Rattle.sheet.specs.Said.Outcome.{accepted}
 use Rattle.sheet.specs.own.Stands.{Opens}
@@ -36,7 +36,6 @@ use Rattle.why.specs.Reason.{FollowsFrom, Reason}
 use Rattle.why.specs.laws.Explained.{opens-counts}
 use Rattle.why.specs.laws.Few.{statements-few}
 use Rattle.why.specs.laws.Finding.{broken-in}
-use Rattle.report.specs.Promise.{lineOf}
 use Rattle.answer.specs.declared.Absent.{Absent}
 use Rattle.answer.specs.declared.CellAsked.{CellAsked}
 use Rattle.answer.specs.declared.FindingAsked.{FindingAsked}

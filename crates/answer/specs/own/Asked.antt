@@ -11,13 +11,12 @@ use Rattle.field.specs.declared.Form.{Form}
 use Rattle.field.specs.declared.Form.the-variants as form
 use Rattle.field.specs.declared.Table.{Table}
 use Rattle.field.specs.Names.{Names}
-use Rattle.sheet.specs.Said.{Said}
+use Rattle.sheet.specs.Said.{Said, lineOf}
 use Rattle.saying.specs.Read.{statementOf}
 use Rattle.field.specs.Words.{Field}
 use Rattle.why.specs.declared.Sides.{Sides}
 use Rattle.why.specs.Finding.{BrokenSub}
 use Rattle.why.specs.own.Sides.{Breaking}
-use Rattle.report.specs.Promise.{lineOf}
 use Rattle.answer.specs.declared.CellAsked.{CellAsked}
 use Rattle.answer.specs.declared.FindingAsked.{FindingAsked}
 use Rattle.answer.specs.Question.{AsksCell, AsksFinding}

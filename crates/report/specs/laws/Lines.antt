@@ -17,10 +17,9 @@ use Rattle.rule.specs.declared.Rule.{Rule}
 use Rattle.rule.specs.Findings.{Findings}
 use Rattle.field.specs.Names.{Names}
 use Rattle.sheet.specs.Promise.{findingText, findingsText}
-use Rattle.sheet.specs.Said.{Said}
+use Rattle.sheet.specs.Said.{Said, lineOf}
 use Rattle.field.specs.own.Table.{entered, nameAt}
 use Rattle.field.specs.laws.Tag.{tag-none, tagged-own, tagged-short}
-use Rattle.report.specs.Promise.{lineOf}
 use Rattle.report.specs.own.Lines.{lineText, linesText}
 
 -- ---- names

@@ -11,11 +11,10 @@ use Rattle.field.specs.Names.{countsOf}
 use Rattle.sheet.specs.Promise.{Held, Prints, findingsText, printLimit, totalText}
 use Rattle.sheet.specs.Promise.FindingsFrom.{none}
 use Rattle.sheet.specs.Promise.Prints.{accepted}
-use Rattle.sheet.specs.Said.{Said, SheetRule, outcome}
+use Rattle.sheet.specs.Said.{Said, SheetRule, lineOf, outcome}
 use Rattle.sheet.specs.Said.Outcome.{accepted as acceptedSheet}
 use Rattle.report.specs.declared.Tally.{Tally}
 use Rattle.report.specs.own.Lines.{Printed, Tallied, linesText}
-use Rattle.report.specs.Promise.{lineOf}
 use Rattle.sheet.specs.laws.Count.{findings-snoc}
 use Rattle.report.specs.laws.Lines.{findings-more, rule-lines}
 

@@ -14,12 +14,12 @@ use Rattle.field.specs.Names.{Names}
 use Rattle.line.specs.Fault.{sheetLimit}
 use Rattle.sheet.specs.Promise.{FindingsIn, Held, Prints, findingText, findingsText, printLimit, refusedText, secondText, totalText}
 use Rattle.sheet.specs.Promise.Prints.{refused, accepted}
-use Rattle.sheet.specs.Said.{Said, outcome}
+use Rattle.sheet.specs.Said.{Said, lineOf, outcome}
 use Rattle.sheet.specs.Said.Outcome.{accepted as acceptedSheet}
 use Rattle.sheet.specs.laws.Few.{few-from}
 use Rattle.sheet.specs.laws.Refused.{refused-small}
 use Rattle.sheet.specs.laws.Slight.{Slight, sheet-slight}
-use Rattle.report.specs.Promise.{Pages, PagesIn, PrintsIn, lineOf, textLimit}
+use Rattle.report.specs.Promise.{Pages, PagesIn, PrintsIn, textLimit}
 use Rattle.report.specs.Promise.PrintsIn.{wrong-size, printed}
 
 -- the second item: a tab and a name

@@ -7,7 +7,6 @@ use lib.ListN.{length}
 use Rattle.row.specs.Bit.{Words}
 use Rattle.store.specs.declared.Counts.{Counts}
 use Rattle.store.specs.Layout.{Holds, size, width}
-use Rattle.closure.specs.Lines.{Stated}
 use Rattle.closure.specs.laws.Demand3.{stated-move}
 use Rattle.store.specs.Keeps.{Keeps}
 use Rattle.store.specs.laws.Cells.{keeps-unique}
@@ -21,7 +20,7 @@ use Rattle.line.specs.Fault.{begun, sheetLimit}
 use Rattle.field.specs.Names.{Names, countsOf}
 use Rattle.sheet.specs.Promise.{FindingsFrom, FindingsIn, Held, Leaves, Reads, Stopped}
 use Rattle.sheet.specs.Promise.Reads.{wrong-size, refused as refusedRead, accepted as acceptedRead}
-use Rattle.sheet.specs.Said.{Outcome, Said, marksOf, outcome, statementsOf}
+use Rattle.sheet.specs.Said.{Outcome, Said, StatedIn, marksOf, outcome}
 use Rattle.sheet.specs.Said.Outcome.{accepted, refused}
 use Rattle.sheet.specs.laws.Order.{findings-same, rearranged, same-marks}
 use Rattle.sheet.specs.laws.Pass.{not-both, saidOf}
@@ -35,7 +34,7 @@ reads-leaves {s = s} {t = t} l e (acceptedRead h i p a) = subst (λ (o : Outcome
 
 held-same : (x y : Said) {t v : List ℕ} → Words 64 t → Words 64 v → countsOf (x .names) ≡ countsOf (y .names) → SameStatements x y → Held x t → Held y v → t ≡ v
 held-same x y {v = v} w u e same a b =
-    keeps-unique w u a (keeps-iff (stated-move (same .1)) (stated-move (same .0)) (subst (λ (n : Counts). Keeps width n (Stated (statementsOf (y .statements))) v) (sym e) b))
+    keeps-unique w u a (keeps-iff (stated-move (same .1)) (stated-move (same .0)) (subst (λ (n : Counts). Keeps width n (StatedIn y) v) (sym e) b))
 
 any-order : {sheet other s u t v : List ℕ} {x y : Said} {r q : Reading} → Words 64 t → Words 64 v → length s ≡ size width → length u ≡ size width → outcome sheet ≡ accepted x → outcome other ≡ accepted y
     → countsOf (x .names) ≡ countsOf (y .names) → SameStatements x y → Reads sheet s t r → Reads other u v q → t ≡ v

@@ -18,14 +18,14 @@ use Rattle.field.specs.Words.{at, Field, bodyOf, formOf}
 use Rattle.field.specs.laws.Right.{item-new, right-first}
 use Rattle.line.specs.Fault.{lineFault, none, ruleLimit, sheetLimit}
 use Rattle.line.specs.laws.Accepted.{Accepted, line-accepted}
-use Rattle.sheet.specs.Said.{Said, SheetRule, lineSaid, marksOf, nothing, outcome, outcomeFrom, saying}
+use Rattle.sheet.specs.Said.{Said, SheetRule, lineOf, lineSaid, marksOf, nothing, outcome, outcomeFrom, saying}
 use Rattle.sheet.specs.Said.Outcome.{accepted}
 use Rattle.sheet.specs.laws.Pass.{accepted-start, accepted-step, saidOf}
 
--- said before line k: each item's name is short, each rule stands in an earlier line, and there are not too many rules
+-- said before line k: each item's name is short, each rule stands in a line of number k at most, and there are not too many rules
 pub record Slight (k : ℕ) (x : Said) : Type 0 where
   pub names : (i : ℕ) → length (getD (x .names .items) i []) ≤ nameLimit
-  pub lines : (i : ℕ) → getD (map (λ (r : SheetRule). r .line) (x .rules)) i 0 ≤ k
+  pub lines : (i : ℕ) → lineOf x i ≤ k
   pub few : length (x .rules) ≤ ruleLimit
 
 -- what holds of each entry of a list, and where there is none, also does with one more at the end

@@ -36,7 +36,7 @@ use Rattle.line.specs.Fault.{begun, none, ruleLimit}
 use Rattle.field.specs.Names.{countsOf}
 use Rattle.sheet.specs.Promise.{Stopped}
 use Rattle.field.specs.Words.{at, Field}
-use Rattle.sheet.specs.Said.{Said, saying, statementsOf}
+use Rattle.sheet.specs.Said.{Said, StatedIn, saying}
 use Rattle.saying.specs.Read.{statementOf}
 use Rattle.sheet.specs.own.Stands.{Begins, Stands}
 use Rattle.field.specs.own.Table.{Roomy, entered, nameAt, namesOf, withConcept, withItem, withRole, Places}
@@ -150,10 +150,10 @@ module _ {sheet : List ℕ} {t : Table} {m : Marks} {s : List ℕ} {x : Said} (p
       flip false q = sym q
 
   -- the store once it has begun
-  pub begun-keeps : {s1 : List ℕ} → Begins (begun m) (t .counts) s s1 → Keeps width (t .counts) (Stated (statementsOf (x .statements))) s1
+  pub begun-keeps : {s1 : List ℕ} → Begins (begun m) (t .counts) s s1 → Keeps width (t .counts) (StatedIn x) s1
   begun-keeps {s1} b = go (begun m) refl (st .store) b
     where
-      go : (c : Bool) → begun m ≡ c → Stopped c x s → Begins c (t .counts) s s1 → Keeps width (t .counts) (Stated (statementsOf (x .statements))) s1
+      go : (c : Bool) → begun m ≡ c → Stopped c x s → Begins c (t .counts) s s1 → Keeps width (t .counts) (StatedIn x) s1
       go true e h q = rw (q, ← counted) h
       go false e h q = rw (no-statements e) (keeps-none q)
 

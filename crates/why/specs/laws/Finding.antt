@@ -21,9 +21,9 @@ use Rattle.rule.specs.Expr.{Expr, build, exprAt, exprOf}
 use Rattle.rule.specs.Expr.Expr.{name}
 use Rattle.rule.specs.Form.{nodeAt}
 use Rattle.rule.specs.Meaning.{HoldsOf}
-use Rattle.sheet.specs.Said.{Said, SheetRule}
+use Rattle.sheet.specs.Said.{RuleAt, Said, SheetRule}
 use Rattle.why.specs.declared.NodeName.{NodeName}
-use Rattle.why.specs.Finding.{BrokenSub, RuleAt, SubOfNames, concept}
+use Rattle.why.specs.Finding.{BrokenSub, SubOfNames, concept}
 use Rattle.why.specs.own.Sides.{NodeIs}
 
 -- ---- the sides of a rule

@@ -10,11 +10,11 @@ use Rattle.rule.specs.declared.Node.the-variants as node
 use Rattle.rule.specs.declared.Rule.{Rule}
 use Rattle.sheet.specs.declared.RuleLine.{RuleLine}
 use Rattle.field.specs.declared.Table.{Table}
-use Rattle.sheet.specs.Said.{Said}
+use Rattle.sheet.specs.Said.{RuleAt, Said}
 use Rattle.why.specs.declared.NodeName.{NodeName}
 use Rattle.why.specs.declared.Sides.{Sides}
 use Rattle.why.specs.own.Asked.{Of}
-use Rattle.why.specs.Finding.{BrokenSub, RuleAt, SubOfNames}
+use Rattle.why.specs.Finding.{BrokenSub, SubOfNames}
 
 -- the concept of a node, if it is a name
 abbrev pub NodeIs : Node → NodeName → Type 0
