@@ -2,25 +2,29 @@
 use mathlib.Core.Path.{_≡_}
 use mathlib.Core.Logic.{_↔_}
 use mathlib.Core.List.{List, _++_}
-use Prim.Native.Nat.{ℕ, min}
+use Prim.Native.Nat.{ℕ}
 use lib.IntN.{ℤ}
 use lib.ListN.{length, take, drop}
 use Rattle.logic.specs.Number.{One}
 use Rattle.store.specs.Layout.{size, width}
 use Rattle.rule.specs.declared.Finding.{Finding}
 use Rattle.rule.specs.declared.Rule.{Rule}
+use Rattle.rule.specs.declared.Second.{Second}
+use Rattle.judge.specs.Promise.{filled}
+use Rattle.text.specs.Split.{lines}
 use Rattle.field.specs.Names.{countsOf}
+use Rattle.saying.specs.Meant.{meaningOf}
 use Rattle.sheet.specs.declared.Reading.{Reading}
 use Rattle.sheet.specs.declared.Reading.the-variants.{Accepted}
+use Rattle.sheet.specs.Meant.{linesMean, meanings}
 use Rattle.sheet.specs.Promise.{Prints, Reads, findingsText, printLimit, totalText}
-use Rattle.sheet.specs.Said.{Said}
+use Rattle.sheet.specs.Said.{RuleAt, Said, StatedIn}
 use Rattle.listing.specs.Promise.{ReadsInto}
-use Rattle.why.specs.Finding.{RuleAt}
 use Rattle.saltreeve.specs.Check.{Checks, ChecksIn}
 use Rattle.saltreeve.specs.Room.{InRoom}
 use Rattle.paper.specs.Interpretation.{Interpretation}
-use Rattle.paper.specs.Satisfied.{ICSatisfies}
-use Rattle.verdict.specs.Violations.{Given, MinimalModel, Violations}
+use Rattle.paper.specs.Satisfied.{ICSatisfies, ValueBreaks}
+use Rattle.verdict.specs.Violations.{MinimalModel, Violations}
 
 -- the answer for a sheet with these violations: what it declares, its rules, and how many they are
 abbrev pub answerOf : Said → List Finding → Reading
@@ -30,12 +34,13 @@ answerOf x fs = Accepted (countsOf (x .names)) (length (x .rules)) (length fs)
 abbrev pub textOf : Said → List Finding → List ℕ
 textOf x fs = findingsText x (take printLimit fs) ++ totalText (length fs)
 
--- the list that was lent begins with the first of these as far as it reaches, and goes on as it was
-abbrev pub filled : List Finding → List Finding → List Finding
-filled fs before = take (min (length fs) (length before)) fs ++ drop (min (length fs) (length before)) before
-
 -- of an accepted sheet, which says x: one field a sentence
 pub record SheetVerdict (sheet : List ℕ) (x : Said) : Type 1 where
+  -- its rules are those of its rule lines, in their order, as these mean them
+  pub meant : meanings (x .rules) ≡ linesMean (x .names) 2 (drop 1 (lines sheet))
+  -- what violates a rule over its statements violates every rule that means the same
+  pub by-meaning : (u v : Rule) {I : Interpretation} {a : ℕ} {b : Second} → meaningOf u ≡ meaningOf v → ValueBreaks (countsOf (x .names)) (MinimalModel x) I (u .nodes) (u .head) a b
+      → ValueBreaks (countsOf (x .names)) (MinimalModel x) I (v .nodes) (v .head) a b
   -- there is a model with minimal equality of its statements, so that "in every model" is said of one at least
   pub exists : (I : Interpretation) × MinimalModel x I
   -- there is the list of its violations, and no other
@@ -43,7 +48,7 @@ pub record SheetVerdict (sheet : List ℕ) (x : Said) : Type 1 where
   pub violations : Violations x list
   pub no-other : {fs : List Finding} → Violations x fs → fs ≡ list
   -- the statements IC-satisfy a rule exactly if none of the list is a violation of it
-  pub satisfied : {k : ℕ} {u : Rule} → RuleAt x k u → ICSatisfies (countsOf (x .names)) (Given x) u ↔ ((f : Finding) → One f list → ¬ (f .rule ≡ k))
+  pub satisfied : {k : ℕ} {u : Rule} → RuleAt x k u → ICSatisfies (countsOf (x .names)) (StatedIn x) u ↔ ((f : Finding) → One f list → ¬ (f .rule ≡ k))
   -- reading the sheet counts them
   pub read : {s t : List ℕ} {r : Reading} → length s ≡ size width → Reads sheet s t r → r ≡ answerOf x list
   -- reading it with a list lists them

@@ -4,25 +4,18 @@ use mathlib.Core.Logic.{_↔_, _⊎_}
 use mathlib.Core.List.{List, [], _∷_}
 use Prim.Native.Nat.{ℕ, _<_}
 use Rattle.logic.specs.Number.{One}
-use Rattle.store.specs.Cell.{Cell}
-use Rattle.closure.specs.Lines.{Stated}
 use Rattle.rule.specs.declared.Finding.{Finding}
 use Rattle.rule.specs.declared.Rule.{Rule}
 use Rattle.rule.specs.declared.Second.{Second}
 use Rattle.rule.specs.Findings.{Before}
 use Rattle.field.specs.Names.{countsOf}
-use Rattle.sheet.specs.Said.{Said, statementsOf}
-use Rattle.why.specs.Finding.{RuleAt}
+use Rattle.sheet.specs.Said.{RuleAt, Said, StatedIn}
 use Rattle.paper.specs.Interpretation.{Interpretation, Minimal}
 use Rattle.paper.specs.Satisfied.{ValueBreaks}
 
--- the cells that the statements of a sheet state
-abbrev pub Given : Said → Cell → Type 0
-Given x = Stated (statementsOf (x .statements))
-
 -- an interpretation is a model with minimal equality of the statements of a sheet
 abbrev pub MinimalModel : Said → Interpretation → Type 1
-MinimalModel x = Minimal (countsOf (x .names)) (Given x)
+MinimalModel x = Minimal (countsOf (x .names)) (StatedIn x)
 
 -- the item a alone, or the pair of a and b, violates the rule with the number k, from 0, of the sheet: its value breaks the condition of the rule in every model with minimal equality
 pub record Violates (x : Said) (k a : ℕ) (b : Second) : Type 1 where
@@ -34,7 +27,7 @@ pub record Violates (x : Said) (k a : ℕ) (b : Second) : Type 1 where
 abbrev pub Earlier : Finding → Finding → Type 0
 Earlier f g = (f .rule < g .rule) ⊎ ((f .rule ≡ g .rule) × Before f g)
 
--- each of the list comes before those after it, and so is there once
+-- each of the list comes before those after it, and so is there once: `InOrder` of crate rule, with this order
 pub data InTurn : List Finding → Type 0 where
   none : InTurn []
   more : {f : Finding} {fs : List Finding} → ((g : Finding) → One g fs → Earlier f g) → InTurn fs → InTurn (f ∷ fs)

@@ -2,7 +2,7 @@
 use mathlib.Core.Path.{_≡_, refl, sym, ap, subst}
 use mathlib.Core.Bool.{Bool, true, false, cond, not, _||_, true≢false}
 use mathlib.Core.Logic.{⊎-elim}
-use mathlib.Core.List.{List, [], _∷_, _++_}
+use mathlib.Core.List.{List, [], _∷_, _++_, map-append}
 use Prim.Native.Nat.{ℕ, _+_}
 use native.Mathlib.Omega.{arith}
 use borrow.Author.Tests.{ltb-false}
@@ -24,11 +24,9 @@ use Rattle.line.specs.laws.Accepted.{Accepted, line-accepted}
 use Rattle.saying.specs.Read.{ruleOf, statementOf}
 use Rattle.saying.specs.laws.Judged.{Good, rule-good}
 use Rattle.saying.specs.laws.Stated.{statement-within}
-use Rattle.sheet.specs.Said.{Said, SheetRule, SheetStatement, lineSaid, marksOf, nothing, outcome, outcomeFrom, saying, statementsOf}
+use Rattle.sheet.specs.Said.{Said, SheetRule, SheetStatement, StatedIn, lineSaid, marksOf, nothing, outcome, outcomeFrom, saying, statementsOf}
 use Rattle.sheet.specs.Said.Outcome.{accepted}
 use Rattle.sheet.specs.laws.Pass.{accepted-start, accepted-step, saidOf}
-use Rattle.sheet.specs.laws.Stands.{statements-more}
-use Rattle.verdict.specs.Violations.{Given}
 
 -- what was said is made of declared names
 record Declared (s : Said) : Type 0 where
@@ -74,7 +72,7 @@ saying-declared k s form.Concept fs a h = fresh s (saying k s form.Concept fs) (
 saying-declared k s form.Role fs a h = fresh s (saying k s form.Role fs) (a .started) refl refl
 saying-declared k s form.Item fs a h = fresh s (saying k s form.Item fs) (a .started) refl refl
 saying-declared k s (form.Statement w) fs a h = record {
-  statements = rw statements-more (each-last (statementsOf (s .statements)) (statementOf (s .names) w fs) (h .statements) (statement-within (s .names) w fs (a .right)));
+  statements = rw map-append (each-last (statementsOf (s .statements)) (statementOf (s .names) w fs) (h .statements) (statement-within (s .names) w fs (a .right)));
   rules = h .rules;
 }
 saying-declared k s (form.Rule w) fs a h = record {
@@ -104,8 +102,8 @@ module _ (sheet : List ℕ) {x : Said} (o : outcome sheet ≡ accepted x) where
   sheet-declared = from-declared 2 nothing x _ (accepted-start sheet x o .1) (record { statements = λ z q. absurd (one-none q); rules = λ r q. absurd (one-none q) })
 
   -- what the statements of an accepted sheet state is within its counts
-  pub given-within : (c : Cell) → Given x c → Within (countsOf (x .names)) c
-  given-within c (stated {x = z} q) = sheet-declared .statements z q
+  pub stated-within : (c : Cell) → StatedIn x c → Within (countsOf (x .names)) c
+  stated-within c (stated {x = z} q) = sheet-declared .statements z q
 
   -- its rules are well formed, with their numbers below the counts
   pub rules-good : (r : SheetRule) → One r (x .rules) → Good (countsOf (x .names)) (r .rule)

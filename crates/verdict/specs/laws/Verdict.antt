@@ -7,13 +7,15 @@ use lib.ListN.{length}
 use Rattle.store.specs.Cell.{Follows}
 use Rattle.store.specs.Layout.{size, width}
 use Rattle.rule.specs.declared.Finding.{Finding}
+use Rattle.judge.specs.Promise.{filled}
 use Rattle.field.specs.Names.{countsOf}
 use Rattle.sheet.specs.declared.Reading.{Reading}
 use Rattle.sheet.specs.Promise.{FindingsFrom, FindingsIn, Held, Prints, Reads}
 use Rattle.sheet.specs.Promise.Prints.{refused as refusedPrint, accepted as acceptedPrint}
 use Rattle.sheet.specs.Promise.Reads.{wrong-size, refused as refusedRead, accepted as acceptedRead}
-use Rattle.sheet.specs.Said.{Said, outcome}
+use Rattle.sheet.specs.Said.{Said, StatedIn, outcome}
 use Rattle.sheet.specs.Said.Outcome.{accepted}
+use Rattle.sheet.specs.laws.Meant.{sheet-meant}
 use Rattle.sheet.specs.laws.Pass.{not-both, saidOf}
 use Rattle.listing.specs.Promise.{ReadsInto}
 use Rattle.listing.specs.Promise.ReadsInto.{refused as refusedList, accepted as acceptedList}
@@ -24,9 +26,10 @@ use Rattle.saltreeve.specs.Room.InRoom.{too-long, written}
 use Rattle.paper.specs.laws.Canonical.{Settled, canonical, settled-obeys}
 use Rattle.paper.specs.laws.TheoremB.{canonical-minimal}
 use Rattle.paper.specs.laws.Told.{settled-lines, settled-store}
-use Rattle.verdict.specs.Verdict.{SheetVerdict, answerOf, filled, textOf}
-use Rattle.verdict.specs.Violations.{Given, Violations}
-use Rattle.verdict.specs.laws.Declared.{given-within}
+use Rattle.verdict.specs.Verdict.{SheetVerdict, answerOf, textOf}
+use Rattle.verdict.specs.Violations.{Violations}
+use Rattle.verdict.specs.laws.Declared.{stated-within}
+use Rattle.verdict.specs.laws.Meant.{breaks-meant}
 use Rattle.verdict.specs.laws.Told.{all-findings}
 use Rattle.verdict.specs.laws.Violations.{found-violations, satisfied-none, violations-unique}
 
@@ -36,10 +39,10 @@ room-by f (too-long {text = text} p l e) = too-long (f text p) l e
 room-by f (written {text = text} p l e) = written (f text p) l e
 
 module _ (sheet : List ℕ) {x : Said} (o : outcome sheet ≡ accepted x) where
-  settled : Settled (countsOf (x .names)) (Given x) (Follows (countsOf (x .names)) (Given x))
-  settled = settled-lines (given-within sheet o)
+  settled : Settled (countsOf (x .names)) (StatedIn x) (Follows (countsOf (x .names)) (StatedIn x))
+  settled = settled-lines (stated-within sheet o)
 
-  all : (fs : List Finding) × FindingsFrom (Follows (countsOf (x .names)) (Given x)) (countsOf (x .names)) 0 (x .rules) fs
+  all : (fs : List Finding) × FindingsFrom (Follows (countsOf (x .names)) (StatedIn x)) (countsOf (x .names)) 0 (x .rules) fs
   all = all-findings (settled-obeys settled) (settled .tell) 0 (x .rules)
 
   are : Violations x (all .0)
@@ -72,6 +75,8 @@ module _ (sheet : List ℕ) {x : Said} (o : outcome sheet ≡ accepted x) where
   -- the verdict on every accepted sheet
   pub sheet-verdict : SheetVerdict sheet x
   sheet-verdict = record {
+    meant = sheet-meant sheet x o;
+    by-meaning = λ u v e h. breaks-meant u v e h;
     exists = (canonical settled, canonical-minimal settled);
     list = all .0;
     violations = are;

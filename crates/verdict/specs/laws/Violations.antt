@@ -15,16 +15,15 @@ use Rattle.rule.specs.Findings.{findingOf}
 use Rattle.field.specs.Names.{countsOf}
 use Rattle.saying.specs.laws.Judged.{Good}
 use Rattle.sheet.specs.Promise.{FindingsFrom}
-use Rattle.sheet.specs.Said.{Said, SheetRule, outcome}
+use Rattle.sheet.specs.Said.{RuleAt, Said, SheetRule, StatedIn, outcome}
 use Rattle.sheet.specs.Said.Outcome.{accepted}
 use Rattle.reason.specs.laws.Part.{one-right}
-use Rattle.why.specs.Finding.{RuleAt}
 use Rattle.why.specs.laws.Finding.{rule-unique}
 use Rattle.paper.specs.Satisfied.{ICSatisfies}
 use Rattle.paper.specs.laws.Canonical.{Settled, canonical}
 use Rattle.paper.specs.laws.TheoremB.{canonical-minimal}
 use Rattle.paper.specs.laws.TheoremC.{theorem-c, theorem-c-finding}
-use Rattle.verdict.specs.Violations.{Given, Violates, Violations}
+use Rattle.verdict.specs.Violations.{Violates, Violations}
 use Rattle.verdict.specs.laws.Declared.{rules-good}
 use Rattle.verdict.specs.laws.Turn.{Placed, from-has, from-placed, from-turn, turn-unique}
 
@@ -33,7 +32,7 @@ pub violations-unique : {x : Said} {fs gs : List Finding} → Violations x fs �
 violations-unique a b = turn-unique (a .ordered) (b .ordered) (λ f o. b .exactly f .1 (a .exactly f .0 o)) (λ f o. a .exactly f .1 (b .exactly f .0 o))
 
 -- C is what follows from the statements of the sheet
-module _ (sheet : List ℕ) {x : Said} (o : outcome sheet ≡ accepted x) {C : Cell → Type 0} (s : Settled (countsOf (x .names)) (Given x) C) where
+module _ (sheet : List ℕ) {x : Said} (o : outcome sheet ≡ accepted x) {C : Cell → Type 0} (s : Settled (countsOf (x .names)) (StatedIn x) C) where
   good-at : {k : ℕ} {u : Rule} → RuleAt x k u → Good (countsOf (x .names)) u
   good-at {u = u} p =
       rules-good sheet o (record { line = p .line; rule = u }) (subst (λ (rs : List SheetRule). One (record { line = p .line; rule = u }) rs) (sym (p .is)) (one-right (p .before) first))
@@ -64,7 +63,7 @@ module _ (sheet : List ℕ) {x : Said} (o : outcome sheet ≡ accepted x) {C : C
           (from-has (p .before) (record { line = p .line; rule = v .rule }) (p .after) (subst (λ (rs : List SheetRule). FindingsFrom C (countsOf (x .names)) 0 rs fs) (p .is) m) (breaks-violates p (f .item .0) (f .second) .1 v))
 
   -- a rule is satisfied exactly if none of them is a violation of it
-  pub satisfied-none : {fs : List Finding} {k : ℕ} {u : Rule} → Violations x fs → RuleAt x k u → ICSatisfies (countsOf (x .names)) (Given x) u ↔ ((f : Finding) → One f fs → ¬ (f .rule ≡ k))
+  pub satisfied-none : {fs : List Finding} {k : ℕ} {u : Rule} → Violations x fs → RuleAt x k u → ICSatisfies (countsOf (x .names)) (StatedIn x) u ↔ ((f : Finding) → One f fs → ¬ (f .rule ≡ k))
   satisfied-none {k = k} v p =
       let g = good-at p in
       let c = theorem-c s (g .form) (g .within) in (
