@@ -4,7 +4,7 @@ use Prim.Native.Nat.{ℕ}
 use lib.IntN.{ℤ}
 use Rattle.sheet.specs.Promise.{Prints}
 use Rattle.report.specs.Promise.{PrintsIn, ReadInto}
-use Rattle.saltreeve.specs.Room.{InRoom}
+use Rattle.handover.specs.Room.{InRoom}
 
 -- the room that was lent becomes exit
 abbrev pub Checks : List ℕ → List ℕ → List ℕ → ℤ → Type 0

@@ -1,6 +1,5 @@
 -- What other languages get.
 pub mod Code
-pub mod Room
 pub mod Check
 pub mod Why
 pub mod own

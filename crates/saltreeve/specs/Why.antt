@@ -15,7 +15,7 @@ use Rattle.why.specs.declared.FindingExplained.the-variants as finding
 use Rattle.why.specs.Finding.{ExplainsFinding}
 use Rattle.why.specs.Promise.{Explains}
 use Rattle.answer.specs.Promise.{Answers}
-use Rattle.saltreeve.specs.Room.{InRoom}
+use Rattle.handover.specs.Room.{InRoom}
 
 -- the room that was lent becomes exit
 abbrev pub Whys : List ℕ → List ℕ → List ℕ → List ℕ → ℤ → Type 0

@@ -1,3 +1,2 @@
 -- What the parts of the code do, which no promise mentions.
 pub mod Code
-pub mod Room

@@ -21,7 +21,7 @@ use Rattle.sheet.specs.Promise.{Prints, Reads, findingsText, printLimit, totalT
 use Rattle.sheet.specs.Said.{RuleAt, Said, StatedIn}
 use Rattle.listing.specs.Promise.{ReadsInto}
 use Rattle.saltreeve.specs.Check.{Checks, ChecksIn}
-use Rattle.saltreeve.specs.Room.{InRoom}
+use Rattle.handover.specs.Room.{InRoom}
 use Rattle.paper.specs.Interpretation.{Interpretation}
 use Rattle.paper.specs.Satisfied.{ICSatisfies, ValueBreaks}
 use Rattle.verdict.specs.Violations.{MinimalModel, Violations}

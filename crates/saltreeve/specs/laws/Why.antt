@@ -9,7 +9,7 @@ use mir.Val.{SFits}
 use lib.ListN.{length}
 use Rattle.answer.specs.Promise.{Replies}
 use Rattle.saltreeve.specs.Why.{Whys}
-use Rattle.saltreeve.specs.Room.InRoom.{too-long, written}
+use Rattle.handover.specs.Room.InRoom.{too-long, written}
 
 module _ {sheet question room exit : List ℕ} {n : ℕ} (w : Replies sheet question room exit n) where
   -- a text that has no place in the room

@@ -21,8 +21,8 @@ use Rattle.listing.specs.Promise.{ReadsInto}
 use Rattle.listing.specs.Promise.ReadsInto.{refused as refusedList, accepted as acceptedList}
 use Rattle.report.specs.Promise.{PrintsIn}
 use Rattle.report.specs.Promise.PrintsIn.{wrong-size as wrong-store, printed}
-use Rattle.saltreeve.specs.Room.{InRoom}
-use Rattle.saltreeve.specs.Room.InRoom.{too-long, written}
+use Rattle.handover.specs.Room.{InRoom}
+use Rattle.handover.specs.Room.InRoom.{too-long, written}
 use Rattle.paper.specs.laws.Canonical.{Settled, canonical, settled-obeys}
 use Rattle.paper.specs.laws.TheoremB.{canonical-minimal}
 use Rattle.paper.specs.laws.Told.{settled-lines, settled-store}

@@ -18,7 +18,7 @@ slice-aggregate-hand : tie.Need-slice-aggregate-hand
 slice-aggregate-hand c = search needs
 
 hand-requires : tie.Need-hand-requires
-hand-requires c κs = let z = pages-short (c .before .before .before .page .ensures) in (z, omega arith)
+hand-requires c κs = let z = pages-short (c .before .before .before .page .ensures) in (omega arith, omega arith)
 
 same-length : tie.Need-same-length
 same-length c = search needs

@@ -1,13 +1,13 @@
--- `saltreeve::checks::hand` meets its contract. Assumes nothing.
+-- `handover::hand` meets its contract. Assumes nothing.
 use mathlib.Core.Path.{sym}
 use lib.Seq.{length-take-le}
 use mir.Syntax.{w64}
 use mir.ValLaws.{toZ-pos}
 use native.Mathlib.Omega.{arith}
-use Rattle.saltreeve.specs.laws.Check.{fitting-few, hand-long, hand-written}
+use Rattle.handover.specs.laws.Room.{fitting-few, hand-long, hand-written}
 use borrow.Author.Needs.{needs}
-use Rattle.saltreeve.proofs.checks.hand.Statement.{statement}
-use Rattle.saltreeve.proofs.checks.hand.Tie as tie
+use Rattle.handover.proofs.hand.Statement.{statement}
+use Rattle.handover.proofs.hand.Tie as tie
 
 fitting-requires : tie.Need-fitting-requires
 fitting-requires c κs = search needs

@@ -1,0 +1,2 @@
+-- What is proved of a text in a lent room.
+pub mod Room

@@ -1,0 +1,2 @@
+-- What the parts of the code do, which no promise mentions.
+pub mod Room
