@@ -17,7 +17,8 @@ use Rattle.sheet.specs.Said.Outcome.{accepted, refused}
 use Rattle.field.specs.Words.{Field, bodyOf, formOf, sectionOf}
 use Rattle.line.specs.laws.Accepted.{line-accepted}
 
-none-last : {A : Type 0} (xs : List A) (y : A) → none (xs ++ y ∷ []) ≡ false
+-- a list with a last entry is not none
+pub none-last : {A : Type 0} (xs : List A) (y : A) → none (xs ++ y ∷ []) ≡ false
 none-last [] y = refl
 none-last (x ∷ xs) y = refl
 

@@ -41,6 +41,7 @@ use Rattle.saying.specs.Read.{statementOf}
 use Rattle.sheet.specs.own.Stands.{Begins, Stands}
 use Rattle.field.specs.own.Table.{Roomy, entered, nameAt, namesOf, withConcept, withItem, withRole, Places}
 use Rattle.field.specs.laws.Names.{entered-length}
+use Rattle.sheet.specs.laws.Settled.{none-last}
 
 -- ---- the store
 
@@ -122,10 +123,6 @@ entered-more : (sheet : List ℕ) (n : ℕ) (entries : List ℕ) (p : ℕ) → n
 entered-more sheet n entries p h = rw (add-one, take-suc-set entries n p h) (map-last (nameAt sheet) (take n entries) p)
 
 -- ---- what stands for what was said, after one line more
-
-none-last : {A : Type 0} (xs : List A) (y : A) → none (xs ++ y ∷ []) ≡ false
-none-last [] y = refl
-none-last (x ∷ xs) y = refl
 
 none-nil : {A : Type 0} (xs : List A) → none xs ≡ true → xs ≡ []
 none-nil [] e = refl

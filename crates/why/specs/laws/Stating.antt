@@ -26,7 +26,7 @@ use Rattle.field.specs.laws.Right.{Right}
 use Rattle.line.specs.laws.Accepted.{line-accepted}
 use Rattle.saying.specs.laws.Stated.{statement-within}
 use Rattle.sheet.specs.laws.Pass.{accepted-start, accepted-step, saidOf}
-use Rattle.sheet.specs.laws.Settled.{sheet-settled}
+use Rattle.sheet.specs.laws.Settled.{none-last, sheet-settled}
 use Rattle.why.specs.declared.StatementLine.{StatementLine}
 use Rattle.why.specs.own.Stating.{LineStatement, Next, NextStatement, Opened, Passing, Paused, foundStatement}
 
@@ -76,10 +76,6 @@ unfolding lineSaid
 statement-said k s l w e = rw (statement-some l w e, e)
 
 -- once a statement was accepted, the sheet has begun
-none-last : {A : Type 0} (xs : List A) (y : A) → none (xs ++ y ∷ []) ≡ false
-none-last [] y = refl
-none-last (x ∷ xs) y = refl
-
 statement-begun : (k : ℕ) (x : Said) (w : StatementWord) (fs : List Field) → begun (marksOf (saying k x (form.Statement w) fs)) ≡ true
 statement-begun k x w fs = rw none-last
 
