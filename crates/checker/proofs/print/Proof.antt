@@ -17,7 +17,7 @@ page-requires : tie.Need-page-requires
 page-requires c κs = search needs
 
 array-share-prefix-room : tie.Need-array-share-prefix-room
-array-share-prefix-room c = search needs
+array-share-prefix-room c = omega (arith, pages-short (c .before .page .ensures))
 
 slice-aggregate-write-all : tie.Need-slice-aggregate-write-all
 slice-aggregate-write-all c = sym (length-take-le _ _ (omega (arith, pages-short (c .before .before .page .ensures), (c .before .before .page .kept .1 .0))))
