@@ -22,7 +22,7 @@ use Rattle.rule.specs.Form.{RuleWithin, WellFormed}
 use Rattle.judge.specs.Promise.{Judged, Totals}
 use Rattle.query.specs.declared.Outcome.the-variants.{Compiled}
 use Rattle.query.specs.Promise.{Compiles}
-use Rattle.query.specs.Says.{Answer}
+use Rattle.sense.specs.Says.{Answer}
 use Rattle.paper.specs.Interpretation.{Interpretation, Entails, Minimal}
 use Rattle.paper.specs.Satisfied.{ICSatisfies, ValueBreaks}
 

@@ -1,9 +1,7 @@
 -- Queries. Definitions here, in the order of document 01; what is proved of them in laws, what only the code speaks of in own.
 pub mod Body
-pub mod Says
 pub mod Translation
 pub mod Length
 pub mod Promise
-pub mod Demand2
 pub mod own
 pub mod laws

@@ -25,9 +25,9 @@ use Rattle.rule.specs.Breaks.{Breaks}
 use Rattle.rule.specs.Findings.{Findings, findingOf}
 use Rattle.judge.specs.Promise.{Judged, Totals}
 use Rattle.judge.specs.Promise.Totals.{counted}
-use Rattle.query.specs.Demand2.{SameAnswers}
-use Rattle.query.specs.Says.{Answer}
-use Rattle.query.specs.laws.Demand2.{demand-2-query}
+use Rattle.sense.specs.Demand2.{SameAnswers}
+use Rattle.sense.specs.Says.{Answer}
+use Rattle.sense.specs.laws.Demand2.{demand-2-query}
 use Rattle.paper.specs.Published.{Published, PublishedStore}
 use Rattle.paper.specs.Satisfied.{ICSatisfies}
 use Rattle.paper.specs.laws.Canonical.{canonical}

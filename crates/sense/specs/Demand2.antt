@@ -10,7 +10,7 @@ use Rattle.store.specs.Cell.{Cell}
 use Rattle.rule.specs.declared.Finding.{Finding}
 use Rattle.rule.specs.declared.Second.{Second}
 use Rattle.rule.specs.declared.Second.the-variants as second
-use Rattle.query.specs.Says.{Answer}
+use Rattle.sense.specs.Says.{Answer}
 
 -- a finding as the items of the answer variables: none of them where the rule has no x, the item where it has x alone, both where it has x and y
 pub data Shown : ℕ → ℕ → Second → List ℕ → Type 0 where

@@ -17,11 +17,11 @@ use Rattle.rule.specs.declared.RoleUse.{RoleUse}
 use Rattle.rule.specs.Expr.{Expr}
 use Rattle.rule.specs.Expr.Expr.{name, top, neg, both, many, own, one}
 use Rattle.rule.specs.Meaning.{LinkedWay, Linked, Different, HoldsOf}
 use Rattle.query.specs.Body.{firstItem, eq, Body, _⊕_}
-use Rattle.query.specs.Says.{Values, Met, val, meet, meets, Agree, InRange, HoldsAtom, All}
+use Rattle.sense.specs.Says.{Values, Met, val, meet, meets, Agree, InRange, HoldsAtom, All}
 use Rattle.query.specs.Translation.{linkWay, link, variables, turns, news, apart, pairs, ofExpr}
-use Rattle.query.specs.laws.Says.{Exists, meets-⊕, meet-mono, mono, val-var, val-item, val-agree, frame, split, join}
-use Rattle.query.specs.laws.Fresh.{EachOf, Below, below-up, below-link, below-expr}
+use Rattle.sense.specs.laws.Says.{Exists, meets-⊕, meet-mono, mono, val-var, val-item, val-agree, frame, split, join}
+use Rattle.sense.specs.laws.Fresh.{EachOf, Below, below-up, below-link, below-expr}
 
 known-below : (s : Met) (t v : ℕ) → Below s v → (t < firstItem → s t) → t < firstItem → t < v
 known-below s t v b k lt = b t (k lt) lt
