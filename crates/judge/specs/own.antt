@@ -1,4 +1,3 @@
 -- How findings are sought: no promise of an entry point mentions it.
-pub mod Plan
 pub mod Cursor
 pub mod Search

@@ -5,10 +5,10 @@ ghost use Rattle.row.specs.own.Row.{RowHas};
 ghost use Rattle.row.specs.own.Pick.{room};
 ghost use Rattle.store.specs.Layout.{ClosedStore, Holds};
 ghost use Rattle.store.specs.own.Laid.{Laid};
-ghost use Rattle.judge.specs.own.Plan.{secondAt};
+ghost use Rattle.breach.specs.own.Plan.{secondAt};
 ghost use Rattle.judge.specs.own.Cursor.{Advances, Begins, PlanBroken, Sought, currentOf};
 use crate::Cursor;
-use crate::Plan;
+use breach::Plan;
 use row::Row;
 use rule::Finding;
 use rule::Head;
@@ -32,7 +32,7 @@ fn count_rows(words: &[u64], at: Layout, counts: Counts, plan: Plan) -> u64
     let mut n: u64 = 0;
     let mut x = 0;
     while x < counts.items {
-        let places = crate::breaking::places(words, at, counts, plan, x);
+        let places = breach::breaking::places(words, at, counts, plan, x);
         n += ones(places);
         x += 1;
     }
@@ -45,10 +45,10 @@ pub fn count(words: &[u64], at: Layout, counts: Counts, plan: Plan) -> u64
     ensures { λ r. ⌜ Number (PlanBroken (Holds (at .width) counts (now (words .entry))) counts plan) r ⌝ }
 {
     let head = plan.head;
-    if crate::breaking::is_pair(head) {
+    if breach::breaking::is_pair(head) {
         return count_rows(words, at, counts, plan);
     }
-    ones(crate::breaking::alone_row(words, at, counts, plan))
+    ones(breach::breaking::alone_row(words, at, counts, plan))
 }
 
 // The cursor at the first finding from the row `from` on, or at the end.
@@ -58,7 +58,7 @@ fn seek(words: &[u64], at: Layout, counts: Counts, plan: Plan, from: usize) -> C
 {
     let mut x = from;
     while x < counts.items {
-        let left = crate::breaking::places(words, at, counts, plan, x);
+        let left = breach::breaking::places(words, at, counts, plan, x);
         let y = row::pick::least(&left);
         if y < counts.items {
             return Cursor {
@@ -116,7 +116,7 @@ pub fn advance(words: &[u64], at: Layout, counts: Counts, c: Cursor) -> Cursor
 fn second_at(head: Head, y: usize) -> Second
     ensures { λ r. ⌜ r ≡ secondAt head y ⌝ }
 {
-    if crate::breaking::is_pair(head) {
+    if breach::breaking::is_pair(head) {
         return Second::Item(Item(y));
     }
     Second::None

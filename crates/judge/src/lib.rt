@@ -1,10 +1,10 @@
 // What breaks a rule in a closed store: findings are counted, and sought one after another. `count` is the entry point.
-mod breaking;
 mod findings;
 pub mod seek;
 
 ghost use Rattle.store.specs.Layout.{width};
 ghost use Rattle.judge.specs.Promise.{Totals};
+use breach::Plan;
 use row::Row;
 use rule::Finding;
 use rule::Head;
@@ -28,19 +28,6 @@ pub enum RuleRefusal {
 pub enum Total {
     Count(u64),
     Refused(RuleRefusal),
-}
-
-// A root of a rule: the number of its node, or none.
-pub enum Root {
-    None,
-    At(usize),
-}
-
-// What is kept of a rule while its findings are sought: its head, and the rows of what its roots hold of.
-pub struct Plan {
-    pub head: Head,
-    pub left: Row,
-    pub right: Row,
 }
 
 // Where the findings are: the plan, the places that are left in the row of x, and the least of them, y. At the end x is the number of items.

@@ -3,11 +3,11 @@ ghost use Rattle.store.specs.Layout.{ClosedStore, width};
 ghost use Rattle.store.specs.own.Laid.{Laid};
 ghost use Rattle.judge.specs.own.Search.{Prepares, Ready, Starts, Stepped, Stops, cursorOf, searchAt};
 use crate::Cursor;
-use crate::Plan;
 use crate::Prepared;
 use crate::RuleRefusal;
 use crate::Search;
 use crate::Total;
+use breach::Plan;
 use rule::Rule;
 use store::Counts;
 use store::Layout;
@@ -76,7 +76,7 @@ pub fn start(
     requires { ⌜ Laid at (now words) × ClosedStore (at .width) counts (now words) ⌝ }
     ensures { λ r. ⌜ Starts (now (words .entry)) at counts number rule room r ⌝ }
 {
-    let plan = crate::breaking::plan(words, at, counts, rule);
+    let plan = breach::breaking::plan(words, at, counts, rule);
     let total = crate::findings::count(words, at, counts, plan);
     let cursor = crate::findings::first(words, at, counts, plan);
     let search = search_at(cursor, number, at, counts);

@@ -1,3 +1,2 @@
 -- What is proved of the words that the statements change.
 pub mod LinkRows
-pub mod RoleWord

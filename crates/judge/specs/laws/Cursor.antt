@@ -19,13 +19,13 @@ use Rattle.store.specs.declared.Counts.{Counts}
 use Rattle.store.specs.Cell.{Cell, DeclaredItem}
 use Rattle.rule.specs.declared.Finding.{Finding}
 use Rattle.rule.specs.declared.Head.{Head}
-use Rattle.judge.specs.declared.Plan.{Plan}
+use Rattle.breach.specs.declared.Plan.{Plan}
 use Rattle.rule.specs.declared.Second.{Second}
 use Rattle.rule.specs.Findings.{Before, SecondBefore, findingOf}
 use Rattle.expression.specs.own.Reach.{ItemRow}
-use Rattle.judge.specs.own.Plan.{BreaksBy, PlaceBreaks, PlaceIf, PlanBreaks, isPair, placeOf, secondAt, secondIf}
+use Rattle.breach.specs.own.Plan.{BreaksBy, PlaceBreaks, PlaceIf, PlanBreaks, isPair, placeOf, secondAt, secondIf}
 use Rattle.judge.specs.own.Cursor.{Advances, Ahead, Begins, BrokenBelow, Gone, Left, Listed, PlanBroken, Sought, Stands, currentOf}
-use Rattle.judge.specs.laws.Plan.{breaks-item, breaks-place, breaks-second, place-breaks, place-second, place-unique}
+use Rattle.breach.specs.laws.Plan.{breaks-item, breaks-place, breaks-second, place-breaks, place-second, place-unique}
 use Rattle.judge.specs.laws.Listed.{finding-parts, listed-iff, order-apart, order-before, order-rest}
 use Rattle.judge.specs.declared.Cursor as declared
 

@@ -15,7 +15,7 @@ use Rattle.store.specs.Layout.{ClosedStore, Holds, width}
 use Rattle.store.specs.own.Laid.{Laid, layoutOf}
 use Rattle.judge.specs.declared.Cursor.{Cursor}
 use Rattle.rule.specs.declared.Finding.{Finding}
-use Rattle.judge.specs.declared.Plan.{Plan}
+use Rattle.breach.specs.declared.Plan.{Plan}
 use Rattle.judge.specs.declared.Prepared.{Prepared}
 use Rattle.rule.specs.declared.Rule.{Rule}
 use Rattle.judge.specs.declared.RuleRefusal.{RuleRefusal}
@@ -24,14 +24,14 @@ use Rattle.judge.specs.declared.Total.{Total}
 use Rattle.judge.specs.declared.Total.the-variants.{Count}
 use Rattle.judge.specs.own.Cursor.{Advances, Begins, PlanBroken}
 use Rattle.rule.specs.Findings.{Findings}
-use Rattle.judge.specs.own.Plan.{Planned}
+use Rattle.breach.specs.own.Plan.{Planned}
 use Rattle.judge.specs.Promise.{Judged, RuleFault, Totals, number}
 use Rattle.judge.specs.Promise.Totals.{refused as total-refused, counted}
 use Rattle.judge.specs.own.Search.{Coming, Met, Opens, Prepares, Ready, Starts, Stepped, Stops, cellsOf, cursorOf, searchAt}
 use Rattle.judge.specs.own.Search.Opens.{refused as not-opened, judged}
 use Rattle.judge.specs.laws.Cursor.{ahead-current}
 use Rattle.judge.specs.laws.Listed.{findings-listed, listed-iff}
-use Rattle.judge.specs.laws.Plan.{breaks-planned, planned-breaks}
+use Rattle.breach.specs.laws.Plan.{breaks-planned, planned-breaks}
 use Rattle.judge.specs.laws.Sorted.{in-order}
 
 -- the first of the findings that come is the one at hand

@@ -8,10 +8,10 @@ use Rattle.row.specs.own.Row.{RowHas}
 use Rattle.store.specs.declared.Counts.{Counts}
 use Rattle.store.specs.Cell.{Cell, DeclaredItem}
 use Rattle.rule.specs.declared.Finding.{Finding}
-use Rattle.judge.specs.declared.Plan.{Plan}
+use Rattle.breach.specs.declared.Plan.{Plan}
 use Rattle.rule.specs.declared.Second.{Second}
 use Rattle.rule.specs.Findings.{InOrder, findingOf}
-use Rattle.judge.specs.own.Plan.{PlaceBreaks, PlanBreaks, placeOf, secondAt}
+use Rattle.breach.specs.own.Plan.{PlaceBreaks, PlanBreaks, placeOf, secondAt}
 use Rattle.judge.specs.declared.Cursor as declared
 
 -- a plan's rule is broken by the pair of an item and a second item or none

@@ -2,7 +2,7 @@
 use mathlib.Core.Path.{sym, ap, _∙_}
 use mathlib.Core.Bool.{Bool}
 use borrow.Author.Needs.{needs}
-use Rattle.judge.specs.own.Plan.{secondIf}
+use Rattle.breach.specs.own.Plan.{secondIf}
 use Rattle.judge.proofs.findings.second_at.Statement.{statement}
 use Rattle.judge.proofs.findings.second_at.Tie as tie
 
