@@ -1,14 +1,14 @@
 // The program `lister`, for the tests: prints what the entry points give that write into a list of records. It reads on standard input a byte that is not 0 if the lent store is to be one word
 // short, a few rules by number, and a sheet. A rule is a byte a number: how many items more are declared than the sheet does, then its words.
-mod lists;
-mod print;
-
 ghost use mathlib.Core.Path.{_≡_};
 ghost use lib.ListN.{length};
 use coded::Coded;
+use judge::RuleRefusal;
 use judge::Total;
 use libc::STDIN_FILENO;
+use libc::STDOUT_FILENO;
 use rule::Finding;
+use rule::Rule;
 use rule::Second;
 use sheet::Reading;
 use store::Counts;
@@ -22,10 +22,10 @@ const ROOM: usize = 24;
 const RULES: usize = 3;
 
 // The bytes of a rule: how many items more are declared, then its words.
-const RULE: usize = 1 + Coded::RULE;
+const RULE_BYTES: usize = 1 + Coded::RULE;
 
 // The bytes before the sheet.
-const HEAD: usize = 1 + RULES * RULE;
+const HEAD: usize = 1 + RULES * RULE_BYTES;
 
 // One byte more than there can be, so that a longer sheet is known.
 const INPUT: usize = HEAD + 32769;
@@ -53,6 +53,111 @@ fn marked() -> [Finding; ROOM] {
         second: Second::Item(Item(1000)),
     };
     [mark; ROOM]
+}
+
+// Reads a sheet into the lent store, and the findings of its rules into a list that holds the records given.
+fn read_list(sheet: &[u8], words: &mut [u64], given: [Finding; ROOM]) -> Listed {
+    let mut list = given;
+    let answer = listing::read(sheet, words, &mut list);
+    Listed { answer, list }
+}
+
+// Lists the findings of a rule in a list that holds the records given.
+fn find_list(
+    words: &[u64],
+    counts: Counts,
+    number: usize,
+    rule: Rule,
+    given: [Finding; ROOM],
+) -> Found {
+    let mut list = given;
+    let answer = listing::findings(words, counts, number, rule, &mut list);
+    Found { answer, list }
+}
+
+// Prints a word.
+fn word(bytes: &[u8]) {
+    io::write_all(STDOUT_FILENO, bytes);
+}
+
+// Prints a number after a tab.
+fn number(n: u64) {
+    word(b"\t");
+    io::print_decimal(STDOUT_FILENO, n);
+}
+
+// Prints the end of a line.
+fn end() {
+    word(b"\n");
+}
+
+// Prints a record.
+fn record(f: Finding) {
+    word(b"record");
+    number(f.rule as u64);
+    let item = f.item;
+    let second = f.second;
+    number(item.0 as u64);
+    match second {
+        Second::None => {}
+        Second::Item(b) => number(b.0 as u64),
+    }
+    end();
+}
+
+// Prints a list of records.
+fn records(list: [Finding; ROOM]) {
+    let mut i = 0;
+    while i < ROOM {
+        record(list[i]);
+        i += 1;
+    }
+}
+
+// Prints a refusal.
+fn refused(line: usize, k: u64) {
+    word(b"refused");
+    number(line as u64);
+    number(k);
+    end();
+}
+
+// Prints the answer of reading a sheet.
+fn print_reading(answer: Reading) {
+    match answer {
+        Reading::Accepted(counts, rules, total) => {
+            word(b"accepted");
+            number(counts.items as u64);
+            number(counts.concepts as u64);
+            number(counts.roles as u64);
+            number(rules as u64);
+            number(total);
+            end();
+        }
+        Reading::Refused(line, k) => refused(line, k as u64),
+    }
+}
+
+// Prints the number of a rule's refusal.
+fn refusal(k: RuleRefusal) {
+    match k {
+        RuleRefusal::Size => refused(0, 1),
+        RuleRefusal::NotClosed => refused(0, 2),
+        RuleRefusal::Malformed => refused(0, 3),
+        RuleRefusal::Number => refused(0, 4),
+    }
+}
+
+// Prints what is asked of a rule, and the answer.
+fn print_total(asked: &[u8], answer: Total) {
+    match answer {
+        Total::Count(n) => {
+            word(asked);
+            number(n);
+            end();
+        }
+        Total::Refused(k) => refusal(k),
+    }
 }
 
 // The byte at a place, 0 past the end.
@@ -94,12 +199,12 @@ fn judge_rule(given: &[u8], k: usize, words: &[u64], declared: Counts) {
     let coded = words_of(given);
     let rule = coded::rules::rule_of(&coded);
     let counts = with_more(declared, byte_at(given, 0));
-    print::total(b"count", judge::count(words, counts, rule));
-    let found = lists::find_list(words, counts, k, rule, marked());
+    print_total(b"count", judge::count(words, counts, rule));
+    let found = find_list(words, counts, k, rule, marked());
     let answer = found.answer;
     let list = found.list;
-    print::total(b"list", answer);
-    print::records(list);
+    print_total(b"list", answer);
+    records(list);
 }
 
 // Prints what is counted and listed of each of the rules.
@@ -107,7 +212,7 @@ fn judge_rules(input: &[u8], words: &[u64], counts: Counts) {
     let mut k = 0;
     while k < RULES {
         judge_rule(
-            text::part::part(input, 1 + k * RULE, RULE),
+            text::part::part(input, 1 + k * RULE_BYTES, RULE_BYTES),
             k,
             words,
             counts,
@@ -120,20 +225,20 @@ fn judge_rules(input: &[u8], words: &[u64], counts: Counts) {
 fn print_listed(listed: Listed) {
     let answer = listed.answer;
     let list = listed.list;
-    print::reading(answer);
-    print::records(list);
+    print_reading(answer);
+    records(list);
 }
 
 // Prints what reading the sheet gives with a store that is one word short.
 fn print_short(sheet: &[u8]) {
     let mut words = [GARBAGE; Store::WORDS - 1];
-    print_listed(lists::read_list(sheet, &mut words, marked()));
+    print_listed(read_list(sheet, &mut words, marked()));
 }
 
 // Prints what reading the sheet gives, and of an accepted one what its store gives for the rules.
 fn print_whole(input: &[u8], sheet: &[u8]) {
     let mut words = [GARBAGE; Store::WORDS];
-    let listed = lists::read_list(sheet, &mut words, marked());
+    let listed = read_list(sheet, &mut words, marked());
     let answer = listed.answer;
     print_listed(listed);
     match answer {

@@ -1,4 +1,4 @@
--- `lister::lists::find_list` meets its contract: a walk of its MIR, by hand. Assumes nothing.
+-- `lister::find_list` meets its contract: a walk of its MIR, by hand. Assumes nothing.
 -- The array is copied to a local and lent to `listing::findings` for a lifetime of its own; it comes back, and goes into the result with the answer.
 use mathlib.Core.Path.{refl, ap, subst}
 use Prim.Native.Nat.{ℕ, _<_, _^_}
@@ -63,10 +63,10 @@ use Rattle.lister.specs.declared.Found.{Found}
 use Rattle.lister.proofs.Found as L
 use Rattle.lister.proofs.Found.Laws as L′
 use Rattle.lister.proofs.Lent.{Loan, array-back, as-field, lends-array, lentAt, ma, mf, places, room, tyAt}
-use Rattle.lister.proofs.lists.find_list.Key.{name as #lister·find-list}
-use Rattle.lister.proofs.lists.find_list as fl
-use Rattle.lister.proofs.lists.find_list.Statement as stated
-use Rattle.lister.proofs.lists.find_list.Code as code
+use Rattle.lister.proofs.find_list.Key.{name as #lister·find-list}
+use Rattle.lister.proofs.find_list as fl
+use Rattle.lister.proofs.find_list.Statement as stated
+use Rattle.lister.proofs.find_list.Code as code
 
 -- what is had of each parameter at exit: nothing
 abbrev stayed : Stays (fl.ended .signature .params) (fl.ended .kept)

@@ -1,9 +1,9 @@
--- `lister::print::records` meets its contract. Assumes nothing.
+-- `lister::records` meets its contract. Assumes nothing.
 use Prim.Native.Nat.{_-_, _≤_}
 use native.Mathlib.Omega.{arith}
 use borrow.Author.Needs.{needs}
-use Rattle.lister.proofs.print.records.Statement.{statement}
-use Rattle.lister.proofs.print.records.Tie as tie
+use Rattle.lister.proofs.records.Statement.{statement}
+use Rattle.lister.proofs.records.Tie as tie
 
 abbrev Inv-loop : tie.InvT-loop
 Inv-loop list i₀ i = i ≤ 24

@@ -1,4 +1,4 @@
--- `lister::lists::read_list` meets its contract: a walk of its MIR, by hand. Assumes nothing.
+-- `lister::read_list` meets its contract: a walk of its MIR, by hand. Assumes nothing.
 -- The array is copied to a local and lent to `listing::read` for a lifetime of its own; it comes back, and goes into the result with the answer. The store is given to `listing::read` for good.
 use mathlib.Core.Path.{_≡_, refl, ap, subst}
 use Prim.Native.Nat.{ℕ}
@@ -55,10 +55,10 @@ use Rattle.lister.specs.declared.Listed.{Listed}
 use Rattle.lister.proofs.Listed as L
 use Rattle.lister.proofs.Listed.Laws as L′
 use Rattle.lister.proofs.Lent.{Loan, array-back, as-field, lends-array, lentAt, ma, mf, places, room, tyAt}
-use Rattle.lister.proofs.lists.read_list.Key.{name as #lister·read-list}
-use Rattle.lister.proofs.lists.read_list as rl
-use Rattle.lister.proofs.lists.read_list.Statement as stated
-use Rattle.lister.proofs.lists.read_list.Code as code
+use Rattle.lister.proofs.read_list.Key.{name as #lister·read-list}
+use Rattle.lister.proofs.read_list as rl
+use Rattle.lister.proofs.read_list.Statement as stated
+use Rattle.lister.proofs.read_list.Code as code
 
 -- what is had of each parameter at exit: nothing but the last words of the store
 abbrev stayed : Stays (rl.ended .signature .params) (rl.ended .kept)
