@@ -11,3 +11,4 @@ pub mod Column
 pub mod Pick
 pub mod Shared
 pub mod Marks
+pub mod Common

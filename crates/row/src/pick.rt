@@ -1,9 +1,10 @@
 ghost use mathlib.Core.Path.{_≡_};
 ghost use Prim.Native.Nat.{_+_, _*_, _≤_, _<_};
 ghost use lib.ListN.{length};
+ghost use Rattle.logic.specs.Number.{Number};
 ghost use Rattle.logic.specs.own.Decides.{Decides};
 ghost use Rattle.row.specs.own.Bit.{LowestBit};
-ghost use Rattle.row.specs.own.Pick.{AllBelow, Alone, Empty, Least, Marked, Met, Next, Shared, Without, room};
+ghost use Rattle.row.specs.own.Pick.{AllBelow, Alone, Empty, InBoth, Least, Marked, Met, Next, Shared, Without, room};
 ghost use Rattle.row.specs.own.Row.{RowHas};
 use crate::ROOM;
 use crate::Row;
@@ -139,4 +140,18 @@ pub fn next(r: &[u64], x: usize, count: usize) -> usize
         at = start + crate::number::lesser(64, count - start);
     }
     count
+}
+
+// How many numbers the row of `width` words at `from` and the row p have in common.
+pub fn common(s: &[u64], from: usize, width: usize, p: &Row) -> usize
+    requires { ⌜ (from + width ≤ length (now s)) × (width ≤ room) ⌝ }
+    ensures { λ n. ⌜ Number (InBoth (now (s .entry)) from width (now (p .entry))) n ⌝ }
+{
+    let mut n = 0;
+    let mut h = 0;
+    while h < width {
+        n += u64::count_ones(s[from + h] & p[h]) as usize;
+        h += 1;
+    }
+    n
 }

@@ -5,3 +5,7 @@ pub mod Split
 pub mod Name
 pub mod Text
 pub mod Dates
+pub mod Chunk
+pub mod Ends
+pub mod Scan
+pub mod Mask

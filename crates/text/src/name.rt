@@ -59,7 +59,7 @@ pub fn is_name(s: &[u8]) -> bool
 }
 
 // Whether the byte may stand in a line.
-fn line_byte(b: u8) -> bool
+pub fn line_byte(b: u8) -> bool
     ensures { λ r. ⌜ r ≡ lineByte b ⌝ }
 {
     if between(32, b, 126) {

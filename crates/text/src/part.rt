@@ -4,21 +4,14 @@ ghost use Rattle.text.specs.Bytes.{same as sameBytes, place as placeOf};
 ghost use Rattle.text.specs.own.Split.{partOf, endOf};
 ghost use Rattle.text.specs.Split.{split};
 
-// Whether the bytes are the same; compared from the last one back, as names that are alike mostly differ at their end.
+// Whether the bytes are the same; the last ones are compared first, as names that are alike mostly differ at their end.
 pub fn same(a: &[u8], b: &[u8]) -> bool
     ensures { λ r. ⌜ r ≡ sameBytes (now (a .entry)) (now (b .entry)) ⌝ }
 {
     if a.len() != b.len() {
         return false;
     }
-    let mut i = a.len();
-    while 0 < i {
-        i -= 1;
-        if a[i] != b[i] {
-            return false;
-        }
-    }
-    true
+    crate::chunk::same_at(b, 0, a)
 }
 
 // So many bytes from a place on, or as many as there are.

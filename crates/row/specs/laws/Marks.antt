@@ -5,7 +5,7 @@ use mathlib.Core.Bool.{Bool, true, false}
 use mathlib.Core.List.{List}
 use Prim.Native.Nat.{ℕ, _+_, _*_, _≤_, _<_}
 use native.Mathlib.Omega.{arith}
-use native.Mathlib.Decide.{ℕ-discrete}
+use native.Mathlib.Decide.{decLt, ℕ-discrete}
 use Rattle.logic.specs.own.Decides.{Decides}
 use Rattle.row.specs.own.Row.{RowHas}
 use Rattle.row.specs.own.Pick.{AllBelow, Empty, Marked, Marks, Met, Without, room}
@@ -56,3 +56,11 @@ marks-shared small a m t = record {
   sound = λ x h. let b = t .right x h in (a .only x (t .left x h), (m .left x b, m .right x b));
   whole = λ x l h. t .has x (omega arith) (a .has x l) (m .has x (omega arith) (h .0) (h .1));
 }
+
+-- from i on, no number below j has the property
+pub marks-skip : {i j : ℕ} {r : List ℕ} {P : ℕ → Type 0} → Marks i r P → i ≤ j → ((x : ℕ) → i ≤ x → x < j → ¬ (P x)) → Marks j r P
+marks-skip {i} {j} {r} {P} m l f = record { sound = λ x h. let y = m .sound x h in (omega (arith, y .0), y .1); whole = λ x lx p. whole x lx p (decLt x i) }
+  where
+    whole : (x : ℕ) → x < j → P x → Dec (x < i) → RowHas r x
+    whole x lx p (yes h) = m .whole x h p
+    whole x lx p (no h) = absurd (f x (omega arith) lx p)

@@ -8,7 +8,7 @@ use lib.Bits.{bitOr}
 use lib.ListN.{length, getD}
 use Rattle.row.specs.Bit.{Has}
 use Rattle.row.specs.own.Row.{RowHas}
-use Rattle.row.specs.own.Change.{gathered, diagW}
+use Rattle.row.specs.own.Change.{diagW}
 
 -- how many words a row has that stands alone
 abbrev pub room : ℕ
@@ -62,12 +62,6 @@ pub record Together (s : List ℕ) (from width : ℕ) (r t : List ℕ) : Type 0 
   pub words : (h : ℕ) → h < width → getD t h 0 ≡ bitOr (getD r h 0) (getD s (from + h) 0)
   pub rest : (h : ℕ) → width ≤ h → getD t h 0 ≡ 0
 
--- t, a row that stands alone, has in its first h words bit k of the words of s from `from` on, `step` words apart, and no other bit
-pub record Column (s : List ℕ) (from step k h : ℕ) (t : List ℕ) : Type 0 where
-  pub len : length t ≡ room
-  pub words : (g : ℕ) → g < h → getD t g 0 ≡ gathered s (from + g * (64 * step)) step k 64
-  pub rest : (g : ℕ) → h ≤ g → getD t g 0 ≡ 0
-
 -- the row of s at `from` and the row p have a number in common
 pub record Shared (s : List ℕ) (from width : ℕ) (p : List ℕ) : Type 0 where
   pub number : ℕ
@@ -84,3 +78,9 @@ pub record AllBelow (n : ℕ) (r : List ℕ) : Type 0 where
 pub record Marks (n : ℕ) (r : List ℕ) (P : ℕ → Type 0) : Type 0 where
   pub sound : (x : ℕ) → RowHas r x → (x < n) × P x
   pub whole : (x : ℕ) → x < n → P x → RowHas r x
+
+-- the number x is in the row of s at `from` and in the row p
+pub record InBoth (s : List ℕ) (from width : ℕ) (p : List ℕ) (x : ℕ) : Type 0 where
+  pub inside : x < 64 * width
+  pub here : Has (getD s (from + x / 64) 0) (x % 64)
+  pub there : RowHas p x

@@ -1,5 +1,5 @@
 -- Laws of tests over bytes, of comparing and of looking up. Assumes nothing.
-use mathlib.Core.Path.{_≡_, refl, sym, _∙_, ap, subst}
+use mathlib.Core.Path.{_≡_, refl, sym, _∙_, ap}
 use mathlib.Core.Bool.{Bool, true, false, true≢false}
 use mathlib.Core.List.{List, [], _∷_, map}
 use Prim.Native.Nat.{ℕ, zero, suc, _+_, _-_, _<_, _≤_}
@@ -66,15 +66,6 @@ same-true (a ∷ s) (b ∷ t) e = go (ℕ-discrete a b) (same-true s t)
     go : Dec (a ≡ b) → (same s t ≡ true → s ≡ t) → a ∷ s ≡ b ∷ t
     go (yes q) rest = let z = rw (eq-eqb _ _ q) at e in rw (q, rest z)
     go (no q) rest = absurd (true≢false (sym (rw (ne-eqb _ _ q) at e)))
-
--- the lists agree from the place before i on
-pub agree-more : (a b : List ℕ) (i : ℕ) → ((j : ℕ) → i ≤ j → j < length a → getD a j 0 ≡ getD b j 0) → getD a (i - 1) 0 ≡ getD b (i - 1) 0
-    → (j : ℕ) → i - 1 ≤ j → j < length a → getD a j 0 ≡ getD b j 0
-agree-more a b i f e j l h = go (ℕ-discrete j (i - 1))
-  where
-    go : Dec (j ≡ i - 1) → getD a j 0 ≡ getD b j 0
-    go (yes q) = subst (λ (k : ℕ). getD a k 0 ≡ getD b k 0) (sym q) e
-    go (no q) = f j (omega arith) h
 
 -- ---- parts
 

@@ -2,16 +2,17 @@
 use mathlib.Core.Path.{_≡_, refl, ap₂, _∙_}
 use mathlib.Core.Bool.{Bool, true, false, cond}
 use mathlib.Core.List.{List, [], _∷_, _++_}
-use Prim.Native.Nat.{ℕ, zero, suc, _+_, _*_, _/_, _%_, _<_, _≤_, _^_, zero-le}
+use Prim.Native.Nat.{ℕ, zero, suc, min, _+_, _-_, _*_, _/_, _%_, _<_, _≤_, _^_, zero-le}
 use native.Mathlib.Nat.{pow-suc, lt-of-lt-of-le}
 use native.Mathlib.Numerals.{add-one}
 use native.Mathlib.Omega.{arith}
 use borrow.Author.Tests.{lt-ltb, le-ltb, ltb-false}
 use lib.Dec.{ltb, lit≤}
 use lib.ListN.{length, set, getD, take, drop, length-append, drop-of-length-le}
-use lib.Seq.{sets, sets-eq, drop-cons, take-append-seam}
+use lib.Seq.{sets, set-out, sets-eq, drop-cons, take-append-seam}
 use Rattle.logic.specs.laws.Sets.{sets-append}
 use Rattle.text.specs.Text.{digits, decimal, Wrote}
+use Rattle.text.specs.laws.Choice.{le-cases}
 
 -- one text after the other
 pub wrote-then : {room mid exit t u : List ℕ} {at p r : ℕ} → Wrote room at t mid p → Wrote mid p u exit r → Wrote room at (t ++ u) exit r
@@ -21,9 +22,18 @@ wrote-then {room} {mid} {exit} {t} {u} {at} {p} {r} f g =
       next = g .next ∙ rw (f .next, length-append) (omega arith);
     }
 
+-- what stands past the end of the room is not written
+sets-past : (src l : List ℕ) (i : ℕ) → length l ≤ i → sets l i src ≡ l
+sets-past [] l i h = refl
+sets-past (b ∷ src) l i h = rw (set-out l i b h) (sets-past src l (suc i) (omega arith))
+
 module _ (l src : List ℕ) (at i : ℕ) where
-  pub sets-out : length src ≤ i → sets l (at + i) (drop i src) ≡ l
+  sets-out : length src ≤ i → sets l (at + i) (drop i src) ≡ l
   sets-out h = rw (drop-of-length-le src h)
+
+  -- nothing is left to write, or no room
+  pub sets-done : i ≡ min (length src) (length l - at) → sets l (at + i) (drop i src) ≡ l
+  sets-done e = le-cases (length src) i sets-out (λ h. sets-past (drop i src) l (at + i) (omega arith))
 
   pub sets-on : i < length src → sets l (at + i) (drop i src) ≡ sets (set l (at + i) (getD src i 0)) (at + (i + 1)) (drop (i + 1) src)
   sets-on h =

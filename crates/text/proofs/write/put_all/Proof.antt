@@ -1,33 +1,36 @@
 -- `text::write::put_all` meets its contract. Assumes nothing.
-use Rattle.text.proofs.write.put_all.Statement.{statement}
-use Rattle.text.proofs.write.put_all.Tie as tie
-use Prim.Native.Nat.{_≤_, _-_, _+_}
 use mathlib.Core.Path.{_≡_, refl, sym, _∙_}
-use lib.ListN.{length, drop}
+use Prim.Native.Nat.{_≤_, _-_, _+_, min}
 use native.Mathlib.Omega.{arith}
 use borrow.Author.Needs.{needs}
+use lib.ListN.{length, drop, length-set}
 use lib.Seq.{sets}
-use Rattle.text.specs.laws.Text.{sets-on, sets-out}
+use Rattle.text.specs.laws.Text.{sets-done, sets-on}
+use Rattle.text.proofs.write.put_all.Statement.{statement}
+use Rattle.text.proofs.write.put_all.Tie as tie
 
 abbrev Inv-loop : tie.InvT-loop
-Inv-loop room₀ at bytes i₀ room i = (i ≤ length bytes) × (length room ≡ length room₀) × (sets room₀ at bytes ≡ sets room (at + i) (drop i bytes))
+Inv-loop room₀ at bytes n i₀ room i = (i ≤ n) × (n ≡ min (length bytes) (length room₀ - at)) × (length room ≡ length room₀) × (sets room₀ at bytes ≡ sets room (at + i) (drop i bytes))
 
 abbrev μ-loop : tie.MeasureT-loop
-μ-loop room₀ at bytes i₀ room i = length bytes - i
+μ-loop room₀ at bytes n i₀ room i = n - i
+
+fitting-requires : tie.Need-fitting-requires Inv-loop μ-loop
+fitting-requires c κs = search needs
 
 loop-holds : tie.Need-loop-holds Inv-loop μ-loop
 loop-holds c =
-    let k : c .before .before .args .at ≡ c .before .before .args .at + 0 = omega arith in
-    (search needs, refl, rw (← k))
+    let k : c .before .before .before .args .at ≡ c .before .before .before .args .at + 0 = omega arith in
+    (omega arith, c .fitting .ensures, refl, rw (← k))
 
-add-put : tie.Need-add-put Inv-loop μ-loop
-add-put c = search needs
+shared-slice-read-room : tie.Need-shared-slice-read-room Inv-loop μ-loop
+shared-slice-read-room c = omega (arith, c .before .before .loop .inv .1, c .before .loop-test .taken)
 
-shared-slice-read-put : tie.Need-shared-slice-read-put Inv-loop μ-loop
-shared-slice-read-put c = search needs
+add-room : tie.Need-add-room Inv-loop μ-loop
+add-room c = search needs
 
-put-requires : tie.Need-put-requires Inv-loop μ-loop
-put-requires c κs = search needs
+slice-write-room : tie.Need-slice-write-room Inv-loop μ-loop
+slice-write-room c = omega (arith, c .before .before .loop .inv .1, c .before .before .loop .inv .2, c .before .loop-test .taken)
 
 add-i : tie.Need-add-i Inv-loop μ-loop
 add-i c = search needs
@@ -37,23 +40,21 @@ loop-less c = search needs
 
 loop-again : tie.Need-loop-again Inv-loop μ-loop
 loop-again c =
-    let w = c .before .before .before .before .before .before .loop in
-    let p = c .before .before .put in
-    (search needs, p .kept .0 ∙ w .inv .1, w .inv .2 ∙ sets-on _ _ _ (w .i) (omega arith) ∙ rw (← p .ensures .here))
+    let v = c .before .before .loop in
+    (omega arith, v .inv .1, length-set (v .room) _ _ ∙ v .inv .2, v .inv .3 ∙ sets-on _ _ _ (v .i) (omega (arith, v .inv .1, c .before .loop-test .taken)))
 
 add-result : tie.Need-add-result Inv-loop μ-loop
 add-result c = search needs
 
 same-length : tie.Need-same-length Inv-loop μ-loop
-same-length c = c .before .loop .inv .1
+same-length c = c .before .loop .inv .2
 
 returns : tie.Need-returns Inv-loop μ-loop
 returns c =
-    let x = c .before .before .before .before .args in
-    let e : c .before .loop .i ≡ length (x .bytes .now) = omega arith in
+    let v = c .before .loop in
     record {
-      here = sym (c .before .loop .inv .2 ∙ sets-out _ _ _ (c .before .loop .i) (omega arith));
-      next = rw e;
+      here = sym (v .inv .3 ∙ sets-done _ _ _ (v .i) (omega (arith, v .inv .0, v .inv .1, v .inv .2, c .loop-test .left)));
+      next = refl;
     }
 
 pub put-all-spec : {M : Type 1} → statement M
@@ -62,10 +63,11 @@ put-all-spec =
     (tie.spec
     Inv-loop
     μ-loop
+    fitting-requires
     loop-holds
-    add-put
-    shared-slice-read-put
-    put-requires
+    shared-slice-read-room
+    add-room
+    slice-write-room
     add-i
     loop-less
     loop-again
