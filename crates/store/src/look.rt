@@ -1,7 +1,9 @@
 ghost use mathlib.Core.Path.{_≡_};
 ghost use Prim.Native.Nat.{_+_, _*_, _≤_, _<_};
 ghost use lib.ListN.{length};
+ghost use Rattle.logic.specs.Number.{Number};
 ghost use Rattle.logic.specs.own.Decides.{Decides};
+ghost use Rattle.row.specs.own.Row.{RowHas};
 ghost use Rattle.row.specs.own.Pick.{Marks, room};
 ghost use Rattle.store.specs.Cell.{cellOf, DeclaredConcept, DeclaredItem, DeclaredRole};
 ghost use Rattle.store.specs.Cell.Cell.{Same, Under, RoleUnder, In, Link};
@@ -165,7 +167,7 @@ pub fn back_row(words: &[u64], at: Layout, counts: Counts, r: Role, x: Item) -> 
 {
     let width = at.width;
     let from = link_row(at, r, Item(0)) + x.0 / 64;
-    row::copy::column(words, from, width, (x.0 % 64) as u64, width)
+    row::copy::column(words, from, width, (x.0 % 64) as u64, counts.items)
 }
 
 // The items in the concept c.
@@ -173,5 +175,14 @@ pub fn concept_row(words: &[u64], at: Layout, counts: Counts, c: Concept) -> Row
     requires { ⌜ Laid at (now words) × ClosedStore (at .width) counts (now words) × DeclaredConcept counts (c .0) ⌝ }
     ensures { λ r. ⌜ Marks (counts .items) r (λ x. Holds (at .width) counts (now (words .entry)) (In x (c .0))) ⌝ }
 {
-    row::copy::column(words, at.item, 1, c.0 as u64, at.width)
+    row::copy::column(words, at.item, 1, c.0 as u64, counts.items)
+}
+
+// How many items of the row p the role r links a to.
+pub fn links_common(words: &[u64], at: Layout, counts: Counts, r: Role, a: Item, p: &Row) -> usize
+    requires { ⌜ Laid at (now words) × ClosedStore (at .width) counts (now words) × DeclaredRole counts (r .0) × DeclaredItem counts (a .0) ⌝ }
+    ensures { λ t. ⌜ Number (λ y. Holds (at .width) counts (now (words .entry)) (Link (r .0) (a .0) y) × RowHas (now (p .entry)) y) t ⌝ }
+{
+    let from = link_row(at, r, a);
+    row::pick::common(words, from, at.width, p)
 }

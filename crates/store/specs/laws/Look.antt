@@ -5,19 +5,21 @@ use mathlib.Core.Bool.{Bool}
 use mathlib.Core.List.{List}
 use Prim.Native.Nat.{ℕ, _+_, _*_, _/_, _%_, _≤_, _<_}
 use native.Mathlib.Omega.{arith}
-use native.Mathlib.Nat.{mul-comm, mul-le-mul-right, div-add-mod'}
+use native.Mathlib.Nat.{mul-le-mul-right, div-add-mod'}
 use lib.ListN.{getD}
+use Rattle.logic.specs.Number.{Number}
+use Rattle.logic.specs.laws.Number.{number-iff}
 use Rattle.logic.specs.own.Decides.{Decides}
 use Rattle.logic.specs.laws.Decides.{decides-iff}
 use Rattle.row.specs.Bit.{Has}
 use Rattle.row.specs.own.Bit.{hasb}
 use Rattle.row.specs.own.Row.{Copied, RowHas}
 use Rattle.row.specs.own.Change.{TakenOn}
-use Rattle.row.specs.own.Pick.{Column, Marks, Shared, Together, room}
+use Rattle.row.specs.own.Pick.{InBoth, Marks, Shared, Together, room}
 use Rattle.row.specs.laws.Rows.{row-within, has-copied, copied-has, copied-within}
 use Rattle.row.specs.laws.Pick.{decides-has}
 use Rattle.row.specs.laws.Bit.{at-place}
-use Rattle.row.specs.laws.Column.{column-has, has-column}
+use Rattle.row.specs.laws.Marks.{marks-iff}
 use Rattle.row.specs.laws.Together.{has-together, taken-gets, taken-has, taken-keeps, together-has}
 use Rattle.store.specs.declared.Counts.{Counts}
 use Rattle.store.specs.Cell.{Cell, Within, DeclaredItem}
@@ -87,35 +89,32 @@ module _ {W from : ℕ} {n : Counts} {s : List ℕ} (r a : ℕ) (k : ClosedStore
       (λ z. record { number = z .item; inside = item-lt (k .fits) (z .link .within .2); here = told-link (z .item) (z .link); there = z .has })
       d
 
+  -- how many items it and the row p have in common
+  pub links-number : {p : List ℕ} {b : ℕ} → Number (InBoth s from W p) b → Number (λ y. Holds W n s (Link r a y) × RowHas p y) b
+  links-number d = number-iff
+      (λ y z. (link-told y (z .inside) (z .here), z .there))
+      (λ y z. record { inside = item-lt (k .fits) (z .0 .within .2); here = told-link y (z .0); there = z .1 })
+      d
+
 -- ---- rows of what is told of many items, by one bit of their words
 
 -- the words of the items' links to x lie within the part
-pub column-within : (W r x : ℕ) → r < roleLimit → x < itemLimit W → (r * itemLimit W + 0) * W + x / 64 + W * (64 * W) < roleLimit * (itemLimit W * W) + W
-column-within W r x hr hx = omega (arith, link-place W r 0 0, mul-comm W (64 * W), row-within r roleLimit (itemLimit W * W) hr)
+pub column-within : (W r x i : ℕ) → r < roleLimit → x < itemLimit W → i ≤ itemLimit W → (r * itemLimit W + 0) * W + x / 64 + i * W < roleLimit * (itemLimit W * W) + W
+column-within W r x i hr hx hi = omega (arith, link-place W r 0 0, mul-le-mul-right W hi, row-within r roleLimit (itemLimit W * W) hr)
 
 -- the row marks the items that the role r links to x
-pub back-marks : {W from : ℕ} {n : Counts} {s t : List ℕ} (r x : ℕ) → ClosedStore W n s → DeclaredItem n x → from ≡ linkAt W + (r * itemLimit W + 0) * W + x / 64 → Column s from W (x % 64) W t
-    → Marks (n .items) t (λ y. Holds W n s (Link r y x))
-back-marks {W} {from} {n} {s} r x k l e c = record {
-  sound = λ y h.
-      let q = column-has c y h in
-      let z = link-holds k r y x (q .0) (item-lt (k .fits) l) (at-place s (here y) (q .1)) in
-      (z .within .1, z);
-  whole = λ y ly h. has-column c y (item-lt (k .fits) ly) (at-place s (sym (here y)) (h .bit));
-}
+pub back-marks : {W from : ℕ} {n : Counts} {s t : List ℕ} (r x : ℕ) → ClosedStore W n s → DeclaredItem n x → from ≡ linkAt W + (r * itemLimit W + 0) * W + x / 64
+    → Marks (n .items) t (λ y. Has (getD s (from + y * W) 0) (x % 64)) → Marks (n .items) t (λ y. Holds W n s (Link r y x))
+back-marks {W} {from} {n} {s} r x k l e m =
+    marks-iff (λ y ly h. link-holds k r y x (item-lt (k .fits) ly) (item-lt (k .fits) l) (at-place s (here y) h)) (λ y ly h. at-place s (sym (here y)) (h .bit)) m
   where
     here : (y : ℕ) → from + y * W ≡ linkIx W r y (x / 64)
     here y = omega (arith, link-place W r y (x / 64), link-place W r 0 (x / 64))
 
 -- the row marks the items in the concept c
-pub concept-marks : {W from : ℕ} {n : Counts} {s t : List ℕ} (c : ℕ) → ClosedStore W n s → from ≡ inAt W → Column s from 1 c W t → Marks (n .items) t (λ x. Holds W n s (In x c))
-concept-marks {W} {from} {s = s} c k e d = record {
-  sound = λ x h.
-      let q = column-has d x h in
-      let z = store-parts k .item x c (q .0) (at-place s (here x) (q .1)) in
-      (z .within .0, z);
-  whole = λ x lx h. has-column d x (item-lt (k .fits) lx) (at-place s (sym (here x)) (h .bit));
-}
+pub concept-marks : {W from : ℕ} {n : Counts} {s t : List ℕ} (c : ℕ) → ClosedStore W n s → from ≡ inAt W → Marks (n .items) t (λ x. Has (getD s (from + x * 1) 0) c) → Marks (n .items) t (λ x. Holds W n s (In x c))
+concept-marks {W} {from} {s = s} c k e m =
+    marks-iff (λ x lx h. store-parts k .item x c (item-lt (k .fits) lx) (at-place s (here x) h)) (λ x lx h. at-place s (sym (here x)) (h .bit)) m
   where
     here : (x : ℕ) → from + x * 1 ≡ inAt W + x
     here x = omega arith

@@ -15,13 +15,13 @@ add-from : tie.Need-add-from
 add-from c =
     let start = c .before .before .before in
     let w = start .args .at .width in
-    omega (arith, c .before .link-row .ensures, column-within w (start .args .r .0) (start .args .x .0) (role-lt (start .pre .1 .fits) (start .pre .2)) (item-lt (start .pre .1 .fits) (start .pre .3)), link-part-small w (start .pre .0 .wide))
+    omega (arith, c .before .link-row .ensures, column-within w (start .args .r .0) (start .args .x .0) (start .args .counts .items) (role-lt (start .pre .1 .fits) (start .pre .2)) (item-lt (start .pre .1 .fits) (start .pre .3)) (start .pre .1 .fits .items), link-part-small w (start .pre .0 .wide))
 
 column-requires : tie.Need-column-requires
 column-requires c κs =
     let start = c .before .before .before .before in
     let w = start .args .at .width in
-    omega (arith, c .before .before .link-row .ensures, start .pre .0 .long, start .pre .0 .wide, column-within w (start .args .r .0) (start .args .x .0) (role-lt (start .pre .1 .fits) (start .pre .2)) (item-lt (start .pre .1 .fits) (start .pre .3)), link-part-small w (start .pre .0 .wide))
+    omega (arith, c .before .before .link-row .ensures, start .pre .0 .long, start .pre .0 .wide, column-within w (start .args .r .0) (start .args .x .0) (start .args .counts .items) (role-lt (start .pre .1 .fits) (start .pre .2)) (item-lt (start .pre .1 .fits) (start .pre .3)) (start .pre .1 .fits .items), link-part-small w (start .pre .0 .wide))
 
 returns : tie.Need-returns
 returns c =
