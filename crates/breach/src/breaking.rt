@@ -7,7 +7,7 @@ ghost use Rattle.row.specs.own.Pick.{Marks, room};
 ghost use Rattle.store.specs.Layout.{ClosedStore, Holds};
 ghost use Rattle.store.specs.own.Laid.{Laid};
 ghost use Rattle.rule.specs.Breaks.{BreaksPair};
-ghost use Rattle.breach.specs.own.Plan.{BreaksBy, PlaceBreaks, Planned, RootRow, isPair, leftRoot, rightRoot};
+ghost use Rattle.breach.specs.own.Plan.{BreaksBy, PlaceBreaks, Planned, RootRow, isPair, isSub, leftRoot, rightRoot};
 ghost use Rattle.store.specs.Cell.{DeclaredItem};
 use crate::Plan;
 use crate::Root;
@@ -46,6 +46,35 @@ fn breaks_alone(
     }
 }
 
+// Whether the rule is broken by what its left root holds of and its right root does not.
+pub fn is_sub(head: Head) -> bool
+    ensures { λ r. ⌜ r ≡ isSub head ⌝ }
+{
+    match head {
+        Head::Sub(_, _) => true,
+        Head::RoleSub(_, _) => false,
+        Head::Chain(_, _, _, _, _, _) => false,
+        Head::Ref(_) => false,
+        Head::Irr(_) => false,
+        Head::Dis(_, _) => false,
+        Head::In(_, _) => false,
+        Head::Rel(_, _, _) => false,
+        Head::NoRel(_, _, _) => false,
+        Head::Same(_, _) => false,
+        Head::Differ(_, _) => false,
+    }
+}
+
+// The numbers below n that the row a has and the row b has not.
+fn but(n: usize, a: &Row, b: &Row) -> Row
+    requires { ⌜ n ≤ 64 * room ⌝ }
+    ensures { λ r. ⌜ Marks n r (λ x. RowHas (now (a .entry)) x × ¬ (RowHas (now (b .entry)) x)) ⌝ }
+{
+    let all = row::pick::below(n);
+    let on = row::pick::meet(&all, a);
+    row::pick::without(&on, b)
+}
+
 // The items that break the plan's rule alone.
 pub fn alone_row(words: &[u64], at: Layout, counts: Counts, plan: Plan) -> Row
     requires { ⌜ Laid at (now words) × ClosedStore (at .width) counts (now words) ⌝ }
@@ -54,6 +83,9 @@ pub fn alone_row(words: &[u64], at: Layout, counts: Counts, plan: Plan) -> Row
     let head = plan.head;
     let left = plan.left;
     let right = plan.right;
+    if is_sub(head) {
+        return but(counts.items, &left, &right);
+    }
     let mut r = row::pick::empty();
     let mut x = 0;
     while x < counts.items {
@@ -81,7 +113,7 @@ fn named(counts: Counts, x: usize, a: Item, b: Item, on: bool) -> Row
 }
 
 // The items y with which x breaks the rule.
-fn pair_row(words: &[u64], at: Layout, counts: Counts, head: Head, x: usize) -> Row
+pub fn pair_row(words: &[u64], at: Layout, counts: Counts, head: Head, x: usize) -> Row
     requires { ⌜ Laid at (now words) × ClosedStore (at .width) counts (now words) × DeclaredItem counts x ⌝ }
     ensures { λ r. ⌜ Marks (counts .items) r (BreaksPair (Holds (at .width) counts (now (words .entry))) counts head x) ⌝ }
 {

@@ -2,3 +2,4 @@
 pub mod Row
 pub mod Reach
 pub mod Tally
+pub mod Many

@@ -1,48 +1,85 @@
 ghost use mathlib.Core.Path.{_≡_};
-ghost use Rattle.logic.specs.own.Decides.{Decides};
+ghost use Prim.Native.Nat.{ℕ, _≤_};
+ghost use Rattle.logic.specs.Number.{Number};
 ghost use Rattle.row.specs.own.Row.{RowHas};
 ghost use Rattle.row.specs.own.Pick.{Marks};
+ghost use Rattle.store.specs.Cell.{DeclaredItem};
 ghost use Rattle.store.specs.Layout.{ClosedStore, Holds};
 ghost use Rattle.store.specs.own.Laid.{Laid};
-ghost use Rattle.rule.specs.Meaning.{Articles};
+ghost use Rattle.rule.specs.Meaning.{Articles, Linked};
+ghost use Rattle.expression.specs.own.Many.{Leaders};
+ghost use Rattle.expression.specs.own.Reach.{Reached};
 ghost use Rattle.expression.specs.own.Row.{Found, turned as turnedOf};
 use row::Row;
 use rule::RoleUse;
 use store::Counts;
 use store::Item;
 use store::Layout;
+use store::Role;
 
-// Whether the items of the row belong to at least k different articles: takes an item and all that are the same, k times.
-pub fn articles(words: &[u64], at: Layout, counts: Counts, found: Row, k: usize) -> bool
-    requires { ⌜ Laid at (now words) × ClosedStore (at .width) counts (now words) ⌝ }
-    ensures { λ r. ⌜ Decides r (Articles (Holds (at .width) counts (now (words .entry))) counts k (RowHas found)) ⌝ }
+// Of each article of the row p the least item.
+fn leaders(words: &[u64], at: Layout, counts: Counts, p: Row) -> Row
+    requires { ⌜ Laid at (now words) × ClosedStore (at .width) counts (now words) × ((x : ℕ) → RowHas p x → DeclaredItem counts x) ⌝ }
+    ensures { λ r. ⌜ Leaders (Holds (at .width) counts (now (words .entry))) counts (RowHas p) (counts .items) (RowHas r) ⌝ }
 {
-    let mut left = found;
-    let mut n: usize = 0;
-    while n < k {
-        let b = row::pick::least(&left);
-        if counts.items <= b {
-            return false;
-        }
+    let mut left = p;
+    let mut b = row::pick::next(&left, 0, counts.items);
+    while b < counts.items {
         let same = store::look::same_row(words, at, counts, Item(b));
         left = row::pick::without(&left, &same);
-        n += 1;
+        row::pick::mark(&mut left, b, true);
+        b = row::pick::next(&left, b + 1, counts.items);
     }
-    true
+    left
 }
 
-// The items that the role, or its inverse, links to items of the row p of at least k different articles, asked one by one.
-fn one_by_one(words: &[u64], at: Layout, counts: Counts, k: usize, u: RoleUse, p: &Row) -> Row
+// Of each article of the row p that the role, or its inverse, links an item of the row q to, one item.
+fn apart(words: &[u64], at: Layout, counts: Counts, u: RoleUse, p: &Row, q: &Row) -> Row
     requires { ⌜ Laid at (now words) × ClosedStore (at .width) counts (now words) ⌝ }
+    ensures { λ r. ⌜ Leaders (Holds (at .width) counts (now (words .entry))) counts (λ b. Reached (Linked (Holds (at .width) counts (now (words .entry))) u) (RowHas (now (q .entry))) b × RowHas (now (p .entry)) b) (counts .items) (RowHas r) ⌝ }
+{
+    let all = crate::reach::step_row(words, at, counts, u, q);
+    let both = row::pick::meet(&all, p);
+    leaders(words, at, counts, both)
+}
+
+// How many items of the row p the role, or its inverse, links x to. A role that is not declared links nothing.
+fn linked_count(words: &[u64], at: Layout, counts: Counts, u: RoleUse, p: &Row, x: usize) -> usize
+    requires { ⌜ Laid at (now words) × ClosedStore (at .width) counts (now words) × DeclaredItem counts x ⌝ }
+    ensures { λ n. ⌜ Number (λ y. Linked (Holds (at .width) counts (now (words .entry))) u x y × RowHas (now (p .entry)) y) n ⌝ }
+{
+    let inverse = u.inverse;
+    let role = u.role.0;
+    if counts.roles <= role {
+        return 0;
+    }
+    if inverse {
+        let back = store::look::back_row(words, at, counts, Role(role), Item(x));
+        return row::pick::common(&back, 0, at.width, p);
+    }
+    store::look::links_common(words, at, counts, Role(role), Item(x), p)
+}
+
+// Of the items of the row q, which the role, or its inverse, links to items of the row p: those that it links to at least k different articles of p.
+fn several(words: &[u64], at: Layout, counts: Counts, k: usize, u: RoleUse, p: &Row, q: &Row) -> Row
+    requires { ⌜ Laid at (now words) × ClosedStore (at .width) counts (now words) × (1 ≤ k) × Marks (counts .items) (now q) (Reached (Linked (Holds (at .width) counts (now words)) (turnedOf u)) (RowHas (now p))) ⌝ }
     ensures { λ r. ⌜ Marks (counts .items) r (λ x. Articles (Holds (at .width) counts (now (words .entry))) counts k (Found (Holds (at .width) counts (now (words .entry))) u (RowHas (now (p .entry))) x)) ⌝ }
 {
+    let lead = apart(words, at, counts, u, p, q);
+    let all = lead;
     let mut r = row::pick::empty();
+    if row::pick::common(&all, 0, at.width, &lead) < k {
+        return r;
+    }
     let mut x = 0;
     while x < counts.items {
-        let found = crate::found::found(words, at, counts, u, p, x);
-        let on = articles(words, at, counts, found, k);
-        row::pick::mark(&mut r, x, on);
-        x += 1;
+        if row::pick::has(q, x) {
+            let n = linked_count(words, at, counts, u, &lead, x);
+            row::pick::mark(&mut r, x, k <= n);
+            x += 1;
+        } else {
+            x = row::pick::next(q, x + 1, counts.items);
+        }
     }
     r
 }
@@ -59,18 +96,22 @@ fn turned(u: RoleUse) -> RoleUse
     }
 }
 
-// The items that the role, or its inverse, links to items of the row p of at least k different articles. Of one article: by the step of the turned role from p; of an inverse: by tallies.
+// The items that the role, or its inverse, links to items of the row p of at least k different articles. Several articles of an inverse: by tallies. One: by the step of the turned role from p.
 pub fn many(words: &[u64], at: Layout, counts: Counts, k: usize, u: RoleUse, p: &Row) -> Row
     requires { ⌜ Laid at (now words) × ClosedStore (at .width) counts (now words) ⌝ }
     ensures { λ r. ⌜ Marks (counts .items) r (λ x. Articles (Holds (at .width) counts (now (words .entry))) counts k (Found (Holds (at .width) counts (now (words .entry))) u (RowHas (now (p .entry))) x)) ⌝ }
 {
-    if k == 1 {
-        let back = turned(u);
-        return crate::reach::step_row(words, at, counts, back, p);
+    if k == 0 {
+        return row::pick::below(counts.items);
     }
     if crate::tally::counts_for(counts, k, u) {
         let role = u.role.0;
         return crate::tally::tally(words, at, counts, k, role, p);
     }
-    one_by_one(words, at, counts, k, u, p)
+    let back = turned(u);
+    let some = crate::reach::step_row(words, at, counts, back, p);
+    if k == 1 {
+        return some;
+    }
+    several(words, at, counts, k, u, p, &some)
 }

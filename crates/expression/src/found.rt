@@ -1,10 +1,8 @@
 ghost use Prim.Native.Nat.{_<_};
-ghost use Rattle.row.specs.own.Row.{RowHas};
 ghost use Rattle.row.specs.own.Pick.{Marks};
 ghost use Rattle.store.specs.Layout.{ClosedStore, Holds};
 ghost use Rattle.store.specs.own.Laid.{Laid};
 ghost use Rattle.rule.specs.Meaning.{Linked};
-ghost use Rattle.expression.specs.own.Row.{Found};
 ghost use Rattle.store.specs.Cell.{DeclaredItem};
 use row::Row;
 use rule::RoleUse;
@@ -28,13 +26,4 @@ pub fn links(words: &[u64], at: Layout, counts: Counts, u: RoleUse, x: usize) ->
         return store::look::back_row(words, at, counts, Role(role), Item(x));
     }
     store::look::join_links(words, at, counts, Role(role), Item(x), &none)
-}
-
-// The items of the row p that the role, or its inverse, links x to.
-pub fn found(words: &[u64], at: Layout, counts: Counts, u: RoleUse, p: &Row, x: usize) -> Row
-    requires { ⌜ Laid at (now words) × ClosedStore (at .width) counts (now words) × DeclaredItem counts x ⌝ }
-    ensures { λ r. ⌜ Marks (counts .items) r (Found (Holds (at .width) counts (now (words .entry))) u (RowHas (now (p .entry))) x) ⌝ }
-{
-    let all = links(words, at, counts, u, x);
-    row::pick::meet(&all, p)
 }

@@ -1,16 +1,15 @@
-ghost use mathlib.Core.Path.{_≡_};
 ghost use mathlib.Core.List.{[], _∷_};
 ghost use mathlib.Core.Bool.{Bool, true, false};
-ghost use Prim.Native.Nat.{_+_, _<_};
-ghost use lib.ListN.{length, take};
+ghost use Prim.Native.Nat.{_<_};
+ghost use lib.ListN.{take};
 ghost use Rattle.logic.specs.own.Decides.{Decides};
 ghost use Rattle.row.specs.own.Row.{RowHas};
-ghost use Rattle.row.specs.own.Pick.{Marks, room};
+ghost use Rattle.row.specs.own.Pick.{Marks};
 ghost use Rattle.store.specs.Layout.{ClosedStore, Holds};
 ghost use Rattle.store.specs.own.Laid.{Laid};
 ghost use Rattle.rule.specs.Meaning.{Linked, LinkedWay};
 ghost use Rattle.rule.specs.Breaks.{Path};
-ghost use Rattle.expression.specs.own.Reach.{Gathered, ItemRow, Reached};
+ghost use Rattle.expression.specs.own.Reach.{ItemRow, Reached};
 ghost use Rattle.store.specs.Cell.{DeclaredItem};
 use row::ROOM;
 use row::Row;
@@ -20,24 +19,6 @@ use store::Item;
 use store::Layout;
 use store::Role;
 
-// The row r takes on the items that the role links z to, if z is in the row p.
-fn with_links(
-    words: &[u64],
-    at: Layout,
-    counts: Counts,
-    role: usize,
-    p: &Row,
-    z: usize,
-    r: &mut Row,
-)
-    requires { ⌜ Laid at (now words) × ClosedStore (at .width) counts (now words) × (role < counts .roles) × DeclaredItem counts z × (length (now r) ≡ room) × Gathered (counts .items) (LinkedWay (Holds (at .width) counts (now words)) Bool.false role) (RowHas (now p)) z (now r) ⌝ }
-    ensures { λ _. ⌜ (length (now (r .exit)) ≡ room) × Gathered (counts .items) (LinkedWay (Holds (at .width) counts (now (words .entry))) Bool.false role) (RowHas (now (p .entry))) (z + 1) (now (r .exit)) ⌝ }
-{
-    if row::pick::has(p, z) {
-        store::look::add_links(words, at, counts, Role(role), Item(z), r);
-    }
-}
-
 // The items that the role links an item of the row p to.
 fn forward(words: &[u64], at: Layout, counts: Counts, role: usize, p: &Row) -> Row
     requires { ⌜ Laid at (now words) × ClosedStore (at .width) counts (now words) × (role < counts .roles) ⌝ }
@@ -46,8 +27,12 @@ fn forward(words: &[u64], at: Layout, counts: Counts, role: usize, p: &Row) -> R
     let mut r = row::pick::empty();
     let mut z = 0;
     while z < counts.items {
-        with_links(words, at, counts, role, p, z, &mut r);
-        z += 1;
+        if row::pick::has(p, z) {
+            store::look::add_links(words, at, counts, Role(role), Item(z), &mut r);
+            z += 1;
+        } else {
+            z = row::pick::next(p, z + 1, counts.items);
+        }
     }
     r
 }
@@ -66,11 +51,16 @@ fn backward(words: &[u64], at: Layout, counts: Counts, role: usize, p: &Row) -> 
     ensures { λ r. ⌜ Marks (counts .items) r (Reached (LinkedWay (Holds (at .width) counts (now (words .entry))) Bool.true role) (RowHas (now (p .entry)))) ⌝ }
 {
     let mut r = row::pick::empty();
+    if row::pick::next(p, 0, counts.items) == counts.items {
+        return r;
+    }
     let mut y = 0;
     while y < counts.items {
-        let on = touches(words, at, counts, role, p, y);
-        row::pick::mark(&mut r, y, on);
+        let here = y;
         y += 1;
+        if touches(words, at, counts, role, p, here) {
+            row::pick::mark(&mut r, here, true);
+        }
     }
     r
 }

@@ -26,7 +26,7 @@ const TALLIES: usize = ROOM * (Rule::COUNT + 1);
 // The word that has every bit.
 const FULL: u64 = 0xffff_ffff_ffff_ffff;
 
-// Whether tallies count k articles of the role use: it is the inverse of a declared role, and k is from 1 to the largest count.
+// Whether tallies count k articles of the role use: it is the inverse of a declared role, and k is from 2 to the largest count.
 pub fn counts_for(counts: Counts, k: usize, u: RoleUse) -> bool
     ensures { λ r. ⌜ Decides r (Countable counts k u) ⌝ }
 {
@@ -38,7 +38,7 @@ pub fn counts_for(counts: Counts, k: usize, u: RoleUse) -> bool
     if counts.roles <= role {
         return false;
     }
-    if k == 0 {
+    if k < 2 {
         return false;
     }
     k <= Rule::COUNT

@@ -78,7 +78,7 @@ pub fn start(
 {
     let plan = breach::breaking::plan(words, at, counts, rule);
     let total = crate::findings::count(words, at, counts, plan);
-    let cursor = crate::findings::first(words, at, counts, plan);
+    let cursor = crate::findings::first(words, at, counts, plan, total);
     let search = search_at(cursor, number, at, counts);
     Prepared {
         answer: Total::Count(total),

@@ -1,13 +1,14 @@
 -- Laws of a rule's plan: that its places are those of the rule's findings. Assumes nothing.
 use mathlib.Core.Path.{_≡_, refl, sym, ap, _∙_, subst}
 use mathlib.Core.Logic.{⊎-elim}
-use mathlib.Core.Bool.{Bool, true, false}
+use mathlib.Core.Bool.{Bool, true, false, false≢true}
 use mathlib.Core.List.{List}
-use Prim.Native.Nat.{ℕ}
+use Prim.Native.Nat.{ℕ, _*_, _≤_}
 use native.Mathlib.Omega.{arith}
 use Rattle.logic.specs.own.Decides.{Decides}
 use Rattle.row.specs.own.Row.{RowHas}
-use Rattle.row.specs.own.Pick.{Empty, Marked, Marks}
+use Rattle.row.specs.own.Pick.{AllBelow, Empty, Marked, Marks, Met, Without, room}
+use Rattle.row.specs.laws.Marks.{marks-iff}
 use Rattle.store.specs.declared.Counts.{Counts}
 use Rattle.store.specs.Cell.{Cell, DeclaredItem}
 use Rattle.rule.specs.declared.Head.{Head}
@@ -17,7 +18,7 @@ use Rattle.rule.specs.declared.Rule.{Rule}
 use Rattle.rule.specs.declared.Second.{Second}
 use Rattle.rule.specs.declared.Slot.{Slot}
 use Rattle.rule.specs.Breaks.{Breaks, BreaksAlone, BreaksPair}
-use Rattle.breach.specs.own.Plan.{BreaksBy, PlaceBreaks, PlaceIf, PlanBreaks, Planned, RootRow, isPair, leftRoot, placeOf, rightRoot, secondAt, secondIf}
+use Rattle.breach.specs.own.Plan.{BreaksBy, PlaceBreaks, PlaceIf, PlanBreaks, Planned, RootRow, isPair, isSub, leftRoot, placeOf, rightRoot, secondAt, secondIf}
 use Rattle.rule.specs.declared.Second.the-variants as second
 
 -- ---- the row of x
@@ -37,6 +38,59 @@ alone-places C n {s} {t} {on} p x e l d m k = subst (λ (b : Bool). Marks (n .it
     told : (b : Bool) → on ≡ b → BreaksBy C (RowHas (p .left)) (RowHas (p .right)) (p .head) x → on ≡ true
     told true q z = q
     told false q z = absurd (d .fails q z)
+
+-- ---- a rule of two roots
+
+-- the numbers that a row has and another has not
+pub but-marks : {n : ℕ} {all a on b r : List ℕ} → n ≤ 64 * room → AllBelow n all → Met all a on → Without on b r → Marks n r (λ x. RowHas a x × ¬ (RowHas b x))
+but-marks small d m w = record {
+  sound = λ x h. let y = w .left x h in (d .only x (m .left x y), (m .right x y, w .right x h));
+  whole = λ x l h. w .has x (omega arith) (m .has x (omega arith) (d .has x l) (h .0)) (h .1);
+}
+
+sub-to : (C : Cell → Type 0) (L R : ℕ → Type 0) (h : Head) → isSub h ≡ true → (x : ℕ) → L x × ¬ (R x) → BreaksBy C L R h x
+sub-to C L R (Sub a b) e x z = z
+sub-to C L R (RoleSub r s) e x z = absurd (false≢true e)
+sub-to C L R (Chain k r1 r2 r3 r4 r) e x z = absurd (false≢true e)
+sub-to C L R (Ref r) e x z = absurd (false≢true e)
+sub-to C L R (Irr r) e x z = absurd (false≢true e)
+sub-to C L R (Dis r s) e x z = absurd (false≢true e)
+sub-to C L R (In a i) e x z = absurd (false≢true e)
+sub-to C L R (Rel r i j) e x z = absurd (false≢true e)
+sub-to C L R (NoRel r i j) e x z = absurd (false≢true e)
+sub-to C L R (Same i j) e x z = absurd (false≢true e)
+sub-to C L R (Differ i j) e x z = absurd (false≢true e)
+
+to-sub : (C : Cell → Type 0) (L R : ℕ → Type 0) (h : Head) → isSub h ≡ true → (x : ℕ) → BreaksBy C L R h x → L x × ¬ (R x)
+to-sub C L R (Sub a b) e x z = z
+to-sub C L R (RoleSub r s) e x z = absurd z
+to-sub C L R (Chain k r1 r2 r3 r4 r) e x z = absurd z
+to-sub C L R (Ref r) e x z = absurd (false≢true e)
+to-sub C L R (Irr r) e x z = absurd (false≢true e)
+to-sub C L R (Dis r s) e x z = absurd z
+to-sub C L R (In a i) e x z = absurd (false≢true e)
+to-sub C L R (Rel r i j) e x z = absurd z
+to-sub C L R (NoRel r i j) e x z = absurd z
+to-sub C L R (Same i j) e x z = absurd z
+to-sub C L R (Differ i j) e x z = absurd z
+
+-- what breaks such a rule
+pub sub-marks : {n : ℕ} {r : List ℕ} {L R : ℕ → Type 0} (C : Cell → Type 0) (h : Head) → isSub h ≡ true → Marks n r (λ x. L x × ¬ (R x)) → Marks n r (BreaksBy C L R h)
+sub-marks {L = L} {R} C h e m = marks-iff (λ x l. sub-to C L R h e x) (λ x l. to-sub C L R h e x) m
+
+-- it is about one item
+pub sub-alone : (h : Head) → isSub h ≡ true → isPair h ≡ false
+sub-alone (Sub a b) e = refl
+sub-alone (RoleSub r s) e = absurd (false≢true e)
+sub-alone (Chain k r1 r2 r3 r4 r) e = absurd (false≢true e)
+sub-alone (Ref r) e = refl
+sub-alone (Irr r) e = refl
+sub-alone (Dis r s) e = absurd (false≢true e)
+sub-alone (In a i) e = refl
+sub-alone (Rel r i j) e = absurd (false≢true e)
+sub-alone (NoRel r i j) e = absurd (false≢true e)
+sub-alone (Same i j) e = absurd (false≢true e)
+sub-alone (Differ i j) e = absurd (false≢true e)
 
 -- ---- places and findings
 

@@ -35,6 +35,20 @@ isPair (NoRel r i i′) = true
 isPair (Same i i′) = true
 isPair (Differ i i′) = true
 
+-- whether a rule is broken by what its left root holds of and its right root does not
+abbrev pub isSub : Head → Bool
+isSub (Sub a b) = true
+isSub (RoleSub r s) = false
+isSub (Chain k r1 r2 r3 r4 r) = false
+isSub (Ref r) = false
+isSub (Irr r) = false
+isSub (Dis r s) = false
+isSub (In a i) = false
+isSub (Rel r i i′) = false
+isSub (NoRel r i i′) = false
+isSub (Same i i′) = false
+isSub (Differ i i′) = false
+
 -- the second item at place y
 abbrev pub secondIf : Bool → ℕ → Second
 secondIf false y = second.None

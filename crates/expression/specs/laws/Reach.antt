@@ -5,14 +5,14 @@ use mathlib.Core.Bool.{Bool, true, false}
 use mathlib.Core.List.{List, [], _∷_}
 use Prim.Native.Nat.{ℕ, _+_, _*_, _≤_, _<_}
 use native.Mathlib.Omega.{arith}
-use native.Mathlib.Decide.{ℕ-discrete}
+use native.Mathlib.Decide.{decLt, ℕ-discrete}
 use lib.ListN.{take}
 use lib.Seq.{take-all}
 use Rattle.logic.specs.own.Decides.{Decides}
 use Rattle.logic.specs.laws.Decides.{decides-iff}
 use Rattle.row.specs.own.Row.{RowHas}
-use Rattle.row.specs.own.Pick.{Empty, Marked, Marks, room}
-use Rattle.row.specs.laws.Marks.{marks-never}
+use Rattle.row.specs.own.Pick.{Empty, Marked, Marks, Next, room}
+use Rattle.row.specs.laws.Marks.{marks-never, marks-skip}
 use Rattle.store.specs.declared.Counts.{Counts}
 use Rattle.store.specs.Cell.{Cell, DeclaredItem}
 use Rattle.store.specs.Cell.Cell.{Link}
@@ -29,13 +29,21 @@ use Rattle.expression.specs.own.Reach.{Reached, Ends, Gathered, ItemRow}
 pub gathered-none : {n : ℕ} {L : ℕ → ℕ → Type 0} {P : ℕ → Type 0} {r : List ℕ} → Empty r → Gathered n L P 0 r
 gathered-none e = record { sound = λ y h. absurd (e .none y h); whole = λ x y l p q. absurd (omega arith) }
 
--- an item that is not in the row changes nothing
-pub gathered-skip : {n z : ℕ} {L : ℕ → ℕ → Type 0} {P : ℕ → Type 0} {r : List ℕ} → Gathered n L P z r → ¬ (P z) → Gathered n L P (z + 1) r
-gathered-skip {z = z} {L} {P} {r} g f = record { sound = g .sound; whole = λ x y l p q. go x y l p q (ℕ-discrete x z) }
+-- items that are not in the row change nothing
+pub gathered-skip : {n i z : ℕ} {L : ℕ → ℕ → Type 0} {P : ℕ → Type 0} {r : List ℕ} → Gathered n L P i r → ((x : ℕ) → i ≤ x → x < z → ¬ (P x)) → Gathered n L P z r
+gathered-skip {i = i} {z} {L} {P} {r} g f = record { sound = g .sound; whole = λ x y l p q. go x y l p q (decLt x i) }
   where
-    go : (x y : ℕ) → x < z + 1 → P x → L x y → Dec (x ≡ z) → RowHas r y
-    go x y l p q (yes e) = absurd (f (subst P e p))
-    go x y l p q (no e) = g .whole x y (omega arith) p q
+    go : (x y : ℕ) → x < z → P x → L x y → Dec (x < i) → RowHas r y
+    go x y l p q (yes h) = g .whole x y h p q
+    go x y l p q (no h) = absurd (f x (omega arith) l p)
+
+-- from an item that is not in the row up to the next that is, there is none
+pub none-between : {n x y : ℕ} {p : List ℕ} → ¬ (RowHas p x) → Next p (x + 1) n y → (z : ℕ) → x ≤ z → z < y → ¬ (RowHas p z)
+none-between {x = x} {y} {p} f d z l h q = go (ℕ-discrete z x)
+  where
+    go : Dec (z ≡ x) → ⊥
+    go (yes e) = f (subst (λ (i : ℕ). RowHas p i) e q)
+    go (no e) = d .least z (omega arith) h q
 
 -- an item that is in it adds its links
 pub gathered-more : {W z : ℕ} {n : Counts} {s r t : List ℕ} {P : ℕ → Type 0} (role : ℕ) → Gathered (n .items) (LinkedWay (Holds W n s) false role) P z r → P z
@@ -65,6 +73,14 @@ reached-none W n s v role l e = marks-never e (λ y ly q. none v (q .from) y (q 
 -- the inverse links an item of the row p to y: the role links y to one
 pub reached-back : {W : ℕ} {n : Counts} {s p : List ℕ} {b : Bool} (role y : ℕ) → Decides b (LinksMeet (Holds W n s) role y p) → Decides b (Reached (LinkedWay (Holds W n s) true role) (RowHas p) y)
 reached-back role y d = decides-iff (λ m. record { from = m .item; has = m .has; link = m .link }) (λ q. record { item = q .from; link = q .link; has = q .has }) d
+
+-- no item, nothing reached
+pub reached-no : {W i : ℕ} {n : Counts} {s p r : List ℕ} (role : ℕ) → Next p 0 (n .items) i → i ≡ n .items → Empty r → Marks (n .items) r (Reached (LinkedWay (Holds W n s) true role) (RowHas p))
+reached-no role d e none = marks-never none (λ y ly q. d .least (q .from) (omega arith) (omega (arith, q .link .within .2)) (q .has))
+
+-- a number more that is not to be marked
+pub marks-pass : {i : ℕ} {r : List ℕ} {P : ℕ → Type 0} → Marks i r P → ¬ (P i) → Marks (i + 1) r P
+marks-pass {i} {P = P} m f = marks-skip m (omega arith) (λ x l h p. let e : x ≡ i = omega arith in f (subst P e p))
 
 -- ---- paths
 

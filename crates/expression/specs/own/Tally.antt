@@ -22,7 +22,7 @@ tallyRoom = room * (countLimit + 1)
 pub record Countable (n : Counts) (k : ℕ) (u : RoleUse) : Type 0 where
   pub inverse : u .inverse ≡ true
   pub role : DeclaredRole n (u .role .0)
-  pub some : 1 ≤ k
+  pub some : 2 ≤ k
   pub few : k ≤ countLimit
 
 -- x is in row j of the tallies

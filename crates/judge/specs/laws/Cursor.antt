@@ -14,7 +14,7 @@ use Rattle.row.specs.Bit.{Words, total}
 use Rattle.row.specs.own.Row.{RowHas}
 use Rattle.row.specs.laws.Bit.{at-bit, at-place, has-lt}
 use Rattle.row.specs.laws.Count.{SetBit, bits-number, total-le}
-use Rattle.row.specs.own.Pick.{Empty, Least, Marks, Without, room}
+use Rattle.row.specs.own.Pick.{Empty, Least, Marks, Next, Without, room}
 use Rattle.store.specs.declared.Counts.{Counts}
 use Rattle.store.specs.Cell.{Cell, DeclaredItem}
 use Rattle.rule.specs.declared.Finding.{Finding}
@@ -66,6 +66,38 @@ module _ (C : Cell → Type 0) (n : Counts) (p : Plan) where
     stands = record { row = λ z h. absurd (e .none z h); here = λ k. absurd (omega arith); least = λ z k. absurd (omega arith) };
     whole = λ z k lz b. absurd (omega arith);
   }
+
+  -- a rule about one item: the next item that breaks it
+  pub gone-alone : {from x : ℕ} {r : List ℕ} → isPair (p .head) ≡ false → Marks (n .items) r (BreaksBy C (RowHas (p .left)) (RowHas (p .right)) (p .head)) → Next r from (n .items) x → Gone C n p from x
+  gone-alone e m d = record {
+    none = λ z s a b h. d .least z a b (m .whole z (breaks-item C n p z s h) (subst (λ (t : Bool). PlaceIf C n p z t (placeOf s)) e (breaks-place C n p z s h .1) .1));
+  }
+
+  -- its place is 0
+  pub sought-alone : {from x : ℕ} {r one : List ℕ} → isPair (p .head) ≡ false → Marks (n .items) r (BreaksBy C (RowHas (p .left)) (RowHas (p .right)) (p .head)) → Next r from (n .items) x → ¬ (x ≡ n .items)
+      → ItemRow 0 one → Sought C n p from (record { plan = p; row = one; x = x; y = 0 })
+  sought-alone {from} {x} {r} {one} e m d f o = record {
+    plan = refl;
+    since = d .from;
+    gone = gone-alone e m d;
+    stands = record {
+      row = λ y h. let z = o .only y h in (inside, omega arith, subst (λ (t : Bool). PlaceIf C n p x t y) (sym e) (z, m .sound x (d .found inside) .1));
+      here = λ l. o .has (omega arith);
+      least = λ y l. absurd (omega arith);
+    };
+    whole = λ y l ly b. let z = subst (λ (t : Bool). PlaceIf C n p x t y) e b .0 in subst (λ (k : ℕ). RowHas one k) (sym z) (o .has (omega arith));
+  }
+    where
+      inside : DeclaredItem n x
+      inside = omega (arith, d .within)
+
+  -- where there is no finding, the end is the first
+  pub sought-none : {c : declared.Cursor} → Number (PlanBroken C n p) 0 → Sought C n p (n .items) c → Sought C n p 0 c
+  sought-none a k = record { plan = k .plan; since = omega arith; gone = record { none = λ z s l h b. no-one (a .count) (a .whole (z, s) b) }; stands = k .stands; whole = k .whole }
+    where
+      no-one : {q : ℕ × Second} {qs : List (ℕ × Second)} → length qs ≡ 0 → ¬ (One q qs)
+      no-one {qs = []} e o = one-none o
+      no-one {qs = q′ ∷ qs} e o = absurd (omega arith)
 
 -- ---- what is still to come
 

@@ -1,11 +1,10 @@
 -- Laws of counting articles: items that are the same count once. Assumes nothing.
-use mathlib.Core.Path.{_≡_, refl, sym, ap, _∙_, subst}
-use mathlib.Core.Logic.{_⊎_, inl, inr, ⊎-elim}
+use mathlib.Core.Path.{_≡_, refl, sym, ap, subst}
+use mathlib.Core.Logic.{⊎-elim}
 use mathlib.Core.List.{List, [], _∷_}
-use Prim.Native.Nat.{ℕ, zero, suc, _+_, _≤_, _<_}
+use Prim.Native.Nat.{ℕ, zero, suc, _≤_, _<_}
 use native.Mathlib.Omega.{arith}
 use native.Mathlib.Decide.{ℕ-discrete, decLt}
-use native.Mathlib.Numerals.{add-one}
 use lib.ListN.{length}
 use Rattle.logic.specs.Number.{One, Distinct}
 use Rattle.logic.specs.Number.One.{first, later}
@@ -30,15 +29,6 @@ record Chosen (C : Cell → Type 0) (xs ys : List ℕ) : Type 0 where
   count : length list ≡ length ys
   from : (b : ℕ) → One b list → One b xs × ((y : ℕ) × One y ys × C (Same b y))
 
--- k items of kind P are taken, no two the same; Left is what is left of P without all that are the same as one of them
-pub record Taken (C : Cell → Type 0) (n : Counts) (P Left : ℕ → Type 0) (k : ℕ) : Type 0 where
-  pub items : List ℕ
-  pub count : length items ≡ k
-  pub each : (b : ℕ) → One b items → DeclaredItem n b × P b
-  pub different : Different C items
-  pub apart : (x : ℕ) → DeclaredItem n x → Left x → P x × ¬ (Covered C items x)
-  pub covered : (x : ℕ) → DeclaredItem n x → P x → Left x ⊎ Covered C items x
-
 module _ {C : Cell → Type 0} {n : Counts} (o : Obeys n C) where
   choose : {xs ys : List ℕ} → Different C ys → ((y : ℕ) → One y ys → Covered C xs y) → Chosen C xs ys
   choose none f = record { list = []; distinct = no-other; count = refl; from = λ b q. absurd (one-none q) }
@@ -57,37 +47,6 @@ module _ {C : Cell → Type 0} {n : Counts} (o : Obeys n C) where
   -- the pigeonhole
   pub cover-le : {xs ys : List ℕ} → Different C ys → ((y : ℕ) → One y ys → Covered C xs y) → length ys ≤ length xs
   cover-le d f = let r = choose d f in omega (arith, r .count, length-le (r .distinct) (λ b q. r .from b q .0))
-
-  -- ---- taking items one by one, each with all that are the same
-
-  -- none is taken
-  pub taken-none : {P : ℕ → Type 0} → Taken C n P P 0
-  taken-none = record { items = []; count = refl; each = λ b q. absurd (one-none q); different = none; apart = λ x l p. (p, λ c. one-none (c .1)); covered = λ x l p. inl p }
-
-  -- one more is taken
-  pub taken-more : {P Left Rest : ℕ → Type 0} {k : ℕ} (b : ℕ) → ((x : ℕ) → Dec (C (Same b x))) → Taken C n P Left k → DeclaredItem n b → Left b
-      → ((x : ℕ) → DeclaredItem n x → Rest x → Left x × ¬ (C (Same b x))) → ((x : ℕ) → DeclaredItem n x → Left x → ¬ (C (Same b x)) → Rest x) → Taken C n P Rest (k + 1)
-  taken-more {P} {Left} {Rest} {k} b same? t l h from to = record {
-    items = b ∷ t .items;
-    count = ap suc (t .count) ∙ sym (add-one k);
-    each = λ x q. ⊎-elim (λ e. subst (λ (y : ℕ). DeclaredItem n y × P y) (sym e) (l, t .apart b l h .0)) (t .each x) (one-cases q);
-    different = more (λ y q s. t .apart b l h .1 (y, q, o .same-sym s)) (t .different);
-    apart = λ x lx r. let s = from x lx r in (t .apart x lx (s .0) .0, λ c. ⊎-elim (λ e. s .1 (subst (λ (y : ℕ). C (Same y x)) e (c .2))) (λ q. t .apart x lx (s .0) .1 (c .0, q, c .2)) (one-cases (c .1)));
-    covered = λ x lx p. ⊎-elim (λ y. tell x lx y (same? x)) (λ c. inr (c .0, later (c .1), c .2)) (t .covered x lx p);
-  }
-    where
-      tell : (x : ℕ) → DeclaredItem n x → Left x → Dec (C (Same b x)) → Rest x ⊎ Covered C (b ∷ t .items) x
-      tell x lx y (yes s) = inr (b, first, s)
-      tell x lx y (no s) = inl (to x lx y s)
-
-  -- as many articles as are taken
-  pub taken-articles : {P Left : ℕ → Type 0} {j k : ℕ} → Taken C n P Left j → j ≡ k → Articles C n k P
-  taken-articles t e = record { items = t .items; count = t .count ∙ e; each = t .each; different = t .different }
-
-  -- and no more, where nothing is left
-  pub taken-fewer : {P Left : ℕ → Type 0} {j k : ℕ} → Taken C n P Left j → ((x : ℕ) → DeclaredItem n x → ¬ (Left x)) → j < k → ¬ (Articles C n k P)
-  taken-fewer t e l a =
-      omega (arith, t .count, a .count, cover-le (a .different) (λ y q. let p = a .each y q in ⊎-elim (λ x. absurd (e y (p .0) x)) (λ c. c) (t .covered y (p .0) (p .1))))
 
 -- ---- telling whether there are so many
 

@@ -5,12 +5,14 @@ use Prim.Native.Nat.{_≤_, _-_}
 use native.Mathlib.Omega.{arith}
 use borrow.Author.Needs.{needs}
 use lib.ListN.{length}
+use Rattle.logic.specs.laws.Decides.{decides-yes}
 use Rattle.row.specs.own.Row.{RowHas}
 use Rattle.row.specs.own.Pick.{Marks, room}
 use Rattle.store.specs.Layout.{Holds}
 use Rattle.rule.specs.Meaning.{LinkedWay}
 use Rattle.expression.specs.own.Reach.{Reached}
 use Rattle.row.specs.laws.Marks.{marks-done, marks-more, marks-none}
+use Rattle.expression.specs.laws.Reach.{marks-pass, reached-no}
 use Rattle.expression.proofs.reach.backward.Statement.{statement}
 use Rattle.expression.proofs.reach.backward.Tie as tie
 
@@ -23,8 +25,17 @@ abbrev μ-loop : tie.MeasureT-loop
 empty-requires : tie.Need-empty-requires Inv-loop μ-loop
 empty-requires c κs = search needs
 
+next-requires : tie.Need-next-requires Inv-loop μ-loop
+next-requires c κs = search needs
+
+returns : tie.Need-returns Inv-loop μ-loop
+returns c = reached-no (c .before .before .before .before .before .before .args .role) (c .before .before .next .ensures) (c .if1 .taken) (c .before .before .before .before .empty .ensures)
+
 loop-holds : tie.Need-loop-holds Inv-loop μ-loop
-loop-holds c = (omega arith, c .empty .ensures .len, marks-none (c .empty .ensures))
+loop-holds c = (omega arith, c .before .before .before .before .empty .ensures .len, marks-none (c .before .before .before .before .empty .ensures))
+
+add-y : tie.Need-add-y Inv-loop μ-loop
+add-y c = omega arith
 
 touches-requires : tie.Need-touches-requires Inv-loop μ-loop
 touches-requires c κs = search needs
@@ -32,20 +43,20 @@ touches-requires c κs = search needs
 mark-requires : tie.Need-mark-requires Inv-loop μ-loop
 mark-requires c κs = search needs
 
-add-y : tie.Need-add-y Inv-loop μ-loop
-add-y c = omega arith
-
 loop-less : tie.Need-loop-less Inv-loop μ-loop
 loop-less c = omega arith
 
 loop-again : tie.Need-loop-again Inv-loop μ-loop
-loop-again c =
-    let at-loop = c .before .before .before .before .before in
-    let at-touches = c .before .before in
-    (omega arith, c .mark .ensures .len ∙ at-loop .loop .inv .1, marks-more (at-loop .loop .inv .2) (at-touches .touches .ensures) (c .mark .ensures))
+loop-again c = (omega arith, c .mark .ensures .len ∙ c .before .before .before .before .before .before .loop .inv .1, marks-more (c .before .before .before .before .before .before .loop .inv .2) (decides-yes (c .before .before .before .touches .ensures .holds (c .before .before .if3 .taken))) (c .mark .ensures))
 
-returns : tie.Need-returns Inv-loop μ-loop
-returns c = marks-done (c .before .before .loop .inv .2) (c .before .before .loop .inv .0) (omega arith)
+loop-less-2 : tie.Need-loop-less-2 Inv-loop μ-loop
+loop-less-2 c = omega arith
+
+loop-again-2 : tie.Need-loop-again-2 Inv-loop μ-loop
+loop-again-2 c = (omega arith, c .before .before .before .before .loop .inv .1, marks-pass (c .before .before .before .before .loop .inv .2) (c .before .touches .ensures .fails (c .if3 .left)))
+
+returns-2 : tie.Need-returns-2 Inv-loop μ-loop
+returns-2 c = marks-done (c .before .before .loop .inv .2) (c .before .before .loop .inv .0) (omega arith)
 
 pub backward-spec : {M : Type 1} → statement M
 backward-spec =
@@ -54,10 +65,14 @@ backward-spec =
     Inv-loop
     μ-loop
     empty-requires
+    next-requires
+    returns
     loop-holds
+    add-y
     touches-requires
     mark-requires
-    add-y
     loop-less
     loop-again
-    returns)
+    loop-less-2
+    loop-again-2
+    returns-2)

@@ -10,7 +10,7 @@ use Rattle.row.specs.own.Pick.{room}
 use Rattle.store.specs.Layout.{Holds}
 use Rattle.rule.specs.Meaning.{LinkedWay}
 use Rattle.expression.specs.own.Reach.{Gathered}
-use Rattle.expression.specs.laws.Reach.{gathered-none, gathered-done}
+use Rattle.expression.specs.laws.Reach.{gathered-none, gathered-more, gathered-skip, gathered-done, none-between}
 use Rattle.expression.proofs.reach.forward.Statement.{statement}
 use Rattle.expression.proofs.reach.forward.Tie as tie
 
@@ -26,8 +26,11 @@ empty-requires c κs = search needs
 loop-holds : tie.Need-loop-holds Inv-loop μ-loop
 loop-holds c = (omega arith, c .empty .ensures .len, gathered-none (c .empty .ensures))
 
-with-links-requires : tie.Need-with-links-requires Inv-loop μ-loop
-with-links-requires c κs = search needs
+has-requires : tie.Need-has-requires Inv-loop μ-loop
+has-requires c κs = search needs
+
+add-links-requires : tie.Need-add-links-requires Inv-loop μ-loop
+add-links-requires c κs = search needs
 
 add-z : tie.Need-add-z Inv-loop μ-loop
 add-z c = omega arith
@@ -36,7 +39,19 @@ loop-less : tie.Need-loop-less Inv-loop μ-loop
 loop-less c = omega arith
 
 loop-again : tie.Need-loop-again Inv-loop μ-loop
-loop-again c = (omega arith, c .with-links .ensures .0, c .with-links .ensures .1)
+loop-again c = (omega arith, c .add-links .ensures .0, gathered-more (c .before .before .before .before .before .before .before .before .before .args .role) (c .before .before .before .before .before .before .loop .inv .2) (c .before .before .before .has .ensures .holds (c .before .before .if2 .taken)) (c .add-links .ensures .1))
+
+add-next : tie.Need-add-next Inv-loop μ-loop
+add-next c = omega arith
+
+next-requires : tie.Need-next-requires Inv-loop μ-loop
+next-requires c κs = search needs
+
+loop-less-2 : tie.Need-loop-less-2 Inv-loop μ-loop
+loop-less-2 c = omega (arith, c .next .ensures .from)
+
+loop-again-2 : tie.Need-loop-again-2 Inv-loop μ-loop
+loop-again-2 c = (c .next .ensures .within, c .before .before .before .before .before .before .loop .inv .1, gathered-skip (c .before .before .before .before .before .before .loop .inv .2) (none-between (c .before .before .before .has .ensures .fails (c .before .before .if2 .left)) (c .next .ensures)))
 
 returns : tie.Need-returns Inv-loop μ-loop
 returns c = gathered-done (c .before .before .before .before .before .args .role) (c .before .before .loop .inv .2) (omega arith)
@@ -49,8 +64,13 @@ forward-spec =
     μ-loop
     empty-requires
     loop-holds
-    with-links-requires
+    has-requires
+    add-links-requires
     add-z
     loop-less
     loop-again
+    add-next
+    next-requires
+    loop-less-2
+    loop-again-2
     returns)

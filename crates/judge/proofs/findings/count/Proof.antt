@@ -10,7 +10,7 @@ is-pair-requires : tie.Need-is-pair-requires
 is-pair-requires c κs = search needs
 
 count-rows-requires : tie.Need-count-rows-requires
-count-rows-requires c κs = search needs
+count-rows-requires c κs = (c .before .before .before .pre .0, c .before .before .before .pre .1, sym (c .before .is-pair .ensures) ∙ c .if1 .taken)
 
 returns : tie.Need-returns
 returns c = search needs
