@@ -1,10 +1,10 @@
 // The fields of a line: the words of a sheet, the names that it declares, and what can be due in a field.
+mod code;
 pub mod names;
 pub mod tables;
 pub mod words;
 
 use rule::Rule;
-use store::Counts;
 use store::Store;
 
 // The words of concept expressions; None is any other field.
@@ -21,11 +21,6 @@ pub enum Operator {
     Top,
     Bot,
     None,
-}
-
-impl Operator {
-    // How many words there are.
-    pub const WORDS: usize = 11;
 }
 
 // The words of statements.
@@ -114,15 +109,22 @@ impl Lineup {
     pub const CHAIN_LONGEST: usize = Rule::LONGEST + 1;
 }
 
-// The declared names, each as an entry, which holds its tag (made of its last two bytes), its place in the sheet and its length.
-pub struct Table {
-    pub concepts: [u32; Store::CONCEPTS],
-    pub roles: [u32; Store::ROLES],
-    pub items: [u32; Store::ITEMS],
-    pub counts: Counts,
-}
+// The numbers lent for the names of a sheet: for each name an entry, which holds its tag (made of its last two bytes), its place in the sheet and its length; after the entries the hints, which say where to look first.
+pub struct Table {}
 
 impl Table {
+    // Where the entries of concepts, of roles and of items begin.
+    pub const CONCEPTS: usize = 0;
+
+    pub const ROLES: usize = Store::CONCEPTS;
+
+    pub const ITEMS: usize = Table::ROLES + Store::ROLES;
+    // Where the hints begin.
+    pub const HINTS: usize = Table::ITEMS + Store::ITEMS;
+    // How many hints there are.
+    pub const KEYS: usize = 1024;
+    // How many numbers there are in all.
+    pub const NUMBERS: usize = Table::HINTS + Table::KEYS;
     // How many tags there are.
     pub const TAGS: u32 = 2048;
     // How many places in a sheet an entry can tell.

@@ -1,10 +1,13 @@
 ghost use mathlib.Core.Path.{_≡_};
 ghost use mathlib.Core.List.{map};
-ghost use Prim.Native.Nat.{_≤_, _<_};
+ghost use Prim.Native.Nat.{_+_, _≤_, _<_};
+ghost use lib.ListN.{length};
+ghost use Rattle.logic.specs.Number.{Distinct};
 ghost use Rattle.text.specs.Bytes.{place, same};
 ghost use Rattle.field.specs.Names.{inverted as invertedOf, plain as plainOf, countOf};
-ghost use Rattle.field.specs.own.Table.{Placed, Roomy, nameAt, namesOf, tagCount, tagOf};
+ghost use Rattle.field.specs.own.Table.{Hinted, Placed, Tidy, entered, hintAt, hintCount, hintsFrom, keyOf, nameAt, namesOf, numberCount, tableOf, tagCount, tagOf};
 use crate::Table;
+use store::Counts;
 
 // The tag of a name, made of its last two bytes.
 pub fn tag(w: &[u8]) -> u32
@@ -41,19 +44,22 @@ fn entry_is(sheet: &[u8], p: u32, w: &[u8], key: u32) -> bool
     requires { ⌜ key ≡ tagOf (now w) ⌝ }
     ensures { λ r. ⌜ r ≡ same (now (w .entry)) (nameAt (now (sheet .entry)) p) ⌝ }
 {
-    if p / Table::TAGGED != key {
-        if 0 < w.len() {
-            return false;
-        }
+    if w.len() == 0 {
+        return text::part::same(w, name_at(sheet, p));
     }
-    text::part::same(w, name_at(sheet, p))
+    if p / Table::TAGGED != key {
+        return false;
+    }
+    let start = (p / Table::LENGTHS % Table::PLACES) as usize;
+    let count = (p % Table::LENGTHS) as usize;
+    text::part::same(w, text::part::part(sheet, start, count))
 }
 
-// The place of the name w among the entries, from 0; how many there are where it is none of them.
-fn place_in(sheet: &[u8], entries: &[u32], w: &[u8]) -> usize
+// The place of the name w, which has the tag given, among the entries, from 0; how many there are where it is none of them.
+fn place_in(sheet: &[u8], entries: &[u32], w: &[u8], key: u32) -> usize
+    requires { ⌜ key ≡ tagOf (now w) ⌝ }
     ensures { λ r. ⌜ r ≡ place (now (w .entry)) (map (nameAt (now (sheet .entry))) (now (entries .entry))) ⌝ }
 {
-    let key = tag(w);
     let mut i = 0;
     while i < entries.len() {
         if entry_is(sheet, entries[i], w, key) {
@@ -64,37 +70,75 @@ fn place_in(sheet: &[u8], entries: &[u32], w: &[u8]) -> usize
     i
 }
 
-// The place of the name w among the concepts.
-pub fn concept(sheet: &[u8], t: Table, w: &[u8]) -> usize
-    requires { ⌜ Roomy t ⌝ }
-    ensures { λ r. ⌜ Placed (now (w .entry)) (namesOf (now (sheet .entry)) t .concepts) (t .counts .concepts) r ⌝ }
+// A number made of a name's first four bytes and its last four, or of its tag.
+fn key(w: &[u8]) -> usize
+    ensures { λ r. ⌜ (r ≡ keyOf (now (w .entry))) × (r < hintCount) ⌝ }
 {
-    let counts = t.counts;
-    let n = counts.concepts;
-    let entries = t.concepts;
-    place_in(sheet, &entries[..n], w)
+    let n = w.len();
+    if 4 <= n {
+        let first = text::chunk::four(w, 0) * 113173225;
+        let last = text::chunk::four(w, n - 4) * 1008168907;
+        return ((first + last) / 67108864 % Table::KEYS as u64) as usize;
+    }
+    tag(w) as usize % Table::KEYS
+}
+
+// Where the hint for the name w stands, among the names whose entries begin at a place.
+pub fn hint_at(from: usize, w: &[u8]) -> usize
+    requires { ⌜ from < hintsFrom ⌝ }
+    ensures { λ r. ⌜ (r ≡ hintAt from (now (w .entry))) × (r < numberCount) ⌝ }
+{
+    Table::HINTS + (key(w) + from) % Table::KEYS
+}
+
+// A hint as a number.
+fn hinted(h: u32) -> usize
+    ensures { λ r. ⌜ r ≡ h ⌝ }
+{
+    h as usize
+}
+
+// The place of the name w among the n names whose entries begin at a place; n where it is none of them. Without a hint it is none of them; the place that the hint says, one less than it, is only tried first.
+fn find(sheet: &[u8], names: &[u32], from: usize, n: usize, w: &[u8]) -> usize
+    requires { ⌜ (length (now names) ≡ numberCount) × (from + n ≤ hintsFrom) × (from < hintsFrom) × Distinct (entered (now sheet) (now names) from n) × Hinted (now names) from (entered (now sheet) (now names) from n) ⌝ }
+    ensures { λ r. ⌜ Placed (now (w .entry)) (entered (now (sheet .entry)) (now (names .entry)) from n) n r ⌝ }
+{
+    let h = hinted(names[hint_at(from, w)]);
+    if h == 0 {
+        return n;
+    }
+    let key = tag(w);
+    if h <= n {
+        if entry_is(sheet, names[from + (h - 1)], w, key) {
+            return h - 1;
+        }
+        return place_in(sheet, &names[from..from + n], w, key);
+    }
+    place_in(sheet, &names[from..from + n], w, key)
+}
+
+// The place of the name w among the concepts.
+pub fn concept(sheet: &[u8], names: &[u32], counts: Counts, w: &[u8]) -> usize
+    requires { ⌜ Tidy (now sheet) (tableOf (now names) counts) ⌝ }
+    ensures { λ r. ⌜ Placed (now (w .entry)) (namesOf (now (sheet .entry)) (tableOf (now (names .entry)) counts) .concepts) (counts .concepts) r ⌝ }
+{
+    find(sheet, names, Table::CONCEPTS, counts.concepts, w)
 }
 
 // The place of the name w among the roles.
-pub fn role(sheet: &[u8], t: Table, w: &[u8]) -> usize
-    requires { ⌜ Roomy t ⌝ }
-    ensures { λ r. ⌜ Placed (now (w .entry)) (namesOf (now (sheet .entry)) t .roles) (t .counts .roles) r ⌝ }
+pub fn role(sheet: &[u8], names: &[u32], counts: Counts, w: &[u8]) -> usize
+    requires { ⌜ Tidy (now sheet) (tableOf (now names) counts) ⌝ }
+    ensures { λ r. ⌜ Placed (now (w .entry)) (namesOf (now (sheet .entry)) (tableOf (now (names .entry)) counts) .roles) (counts .roles) r ⌝ }
 {
-    let counts = t.counts;
-    let n = counts.roles;
-    let entries = t.roles;
-    place_in(sheet, &entries[..n], w)
+    find(sheet, names, Table::ROLES, counts.roles, w)
 }
 
 // The place of the name w among the items.
-pub fn item(sheet: &[u8], t: Table, w: &[u8]) -> usize
-    requires { ⌜ Roomy t ⌝ }
-    ensures { λ r. ⌜ Placed (now (w .entry)) (namesOf (now (sheet .entry)) t .items) (t .counts .items) r ⌝ }
+pub fn item(sheet: &[u8], names: &[u32], counts: Counts, w: &[u8]) -> usize
+    requires { ⌜ Tidy (now sheet) (tableOf (now names) counts) ⌝ }
+    ensures { λ r. ⌜ Placed (now (w .entry)) (namesOf (now (sheet .entry)) (tableOf (now (names .entry)) counts) .items) (counts .items) r ⌝ }
 {
-    let counts = t.counts;
-    let n = counts.items;
-    let entries = t.items;
-    place_in(sheet, &entries[..n], w)
+    find(sheet, names, Table::ITEMS, counts.items, w)
 }
 
 // Whether `~` stands before a role.

@@ -1,41 +1,64 @@
 ghost use mathlib.Core.Path.{_≡_};
-ghost use lib.ListN.{length};
-ghost use Rattle.text.specs.Bytes.{place};
 ghost use Rattle.text.specs.Split.{fields};
-ghost use Rattle.text.specs.own.Split.{partsFrom};
 ghost use Rattle.field.specs.Names.{reserved as reservedOf};
-ghost use Rattle.field.specs.Words.{bodyOf, formOf, isRule, lineForm, operatorOf, operatorWords, ruleForm, sectionOf, spellings};
+ghost use Rattle.field.specs.Words.{formOf, isRule, lineForm, operatorOf, ruleForm, sectionOf};
+ghost use Rattle.field.specs.own.Code.{isWord};
+ghost use Rattle.field.specs.own.Line.{Looked, wordsOf};
 use crate::Form;
 use crate::Operator;
 use crate::RuleWord;
 use crate::Section;
 use crate::StatementWord;
 
-// The place of a field among the words of expressions, from 0; how many there are where it is none of them.
-fn operator_place(f: &[u8]) -> usize
-    ensures { λ r. ⌜ r ≡ place (now (f .entry)) (spellings operatorWords) ⌝ }
-{
-    text::part::place(f, b"and or not some all atleast atmost self one top bot")
-}
-
 // The word of an expression that a field is.
 pub fn operator(f: &[u8]) -> Operator
     ensures { λ r. ⌜ r ≡ operatorOf (now (f .entry)) ⌝ }
 {
-    let k = operator_place(f);
+    let k = crate::code::code(f);
     match k {
-        0 => Operator::And,
-        1 => Operator::Or,
-        2 => Operator::Not,
-        3 => Operator::Some,
-        4 => Operator::All,
-        5 => Operator::AtLeast,
-        6 => Operator::AtMost,
-        7 => Operator::SelfOf,
-        8 => Operator::One,
-        9 => Operator::Top,
-        10 => Operator::Bot,
+        // and
+        23359073 => Operator::And,
+        // or
+        94831 => Operator::Or,
+        // not
+        24407918 => Operator::Not,
+        // some
+        5996638067 => Operator::Some,
+        // all
+        23882849 => Operator::All,
+        // atleast
+        104835553486992481 => Operator::AtLeast,
+        // atmost
+        409514116215905 => Operator::AtMost,
+        // self
+        6013347187 => Operator::SelfOf,
+        // one
+        23424623 => Operator::One,
+        // top
+        24145780 => Operator::Top,
+        // bot
+        24407906 => Operator::Bot,
         _ => Operator::None,
+    }
+}
+
+// Whether it is one of the eleven words.
+fn is_word(w: Operator) -> bool
+    ensures { λ r. ⌜ r ≡ isWord w ⌝ }
+{
+    match w {
+        Operator::And => true,
+        Operator::Or => true,
+        Operator::Not => true,
+        Operator::Some => true,
+        Operator::All => true,
+        Operator::AtLeast => true,
+        Operator::AtMost => true,
+        Operator::SelfOf => true,
+        Operator::One => true,
+        Operator::Top => true,
+        Operator::Bot => true,
+        Operator::None => false,
     }
 }
 
@@ -43,23 +66,31 @@ pub fn operator(f: &[u8]) -> Operator
 pub fn reserved(f: &[u8]) -> bool
     ensures { λ r. ⌜ r ≡ reservedOf (now (f .entry)) ⌝ }
 {
-    operator_place(f) < Operator::WORDS
+    is_word(operator(f))
 }
 
 // The declaration or statement that a first word begins.
 fn line_form(f: &[u8]) -> Form
     ensures { λ r. ⌜ r ≡ lineForm (now (f .entry)) ⌝ }
 {
-    let k = text::part::place(f, b"concept role item in rel same under runder");
+    let k = crate::code::code(f);
     match k {
-        0 => Form::Concept,
-        1 => Form::Role,
-        2 => Form::Item,
-        3 => Form::Statement(StatementWord::In),
-        4 => Form::Statement(StatementWord::Rel),
-        5 => Form::Statement(StatementWord::Same),
-        6 => Form::Statement(StatementWord::Under),
-        7 => Form::Statement(StatementWord::RoleUnder),
+        // concept
+        104832272098553699 => Form::Concept,
+        // role
+        5996572530 => Form::Role,
+        // item
+        6130332777 => Form::Item,
+        // in
+        93801 => Form::Statement(StatementWord::In),
+        // rel
+        23881074 => Form::Statement(StatementWord::Rel),
+        // same
+        5996634483 => Form::Statement(StatementWord::Same),
+        // under
+        1590838980213 => Form::Statement(StatementWord::Under),
+        // runder
+        407254778934642 => Form::Statement(StatementWord::RoleUnder),
         _ => Form::Unknown,
     }
 }
@@ -68,19 +99,30 @@ fn line_form(f: &[u8]) -> Form
 fn rule_form(f: &[u8]) -> Form
     ensures { λ r. ⌜ r ≡ ruleForm (now (f .entry)) ⌝ }
 {
-    let k = text::part::place(f, b"sub rsub chain ref irr dis in rel norel same differ");
+    let k = crate::code::code(f);
     match k {
-        0 => Form::Rule(RuleWord::Sub),
-        1 => Form::Rule(RuleWord::RoleSub),
-        2 => Form::Rule(RuleWord::Chain),
-        3 => Form::Rule(RuleWord::Ref),
-        4 => Form::Rule(RuleWord::Irr),
-        5 => Form::Rule(RuleWord::Dis),
-        6 => Form::Rule(RuleWord::In),
-        7 => Form::Rule(RuleWord::Rel),
-        8 => Form::Rule(RuleWord::NoRel),
-        9 => Form::Rule(RuleWord::Same),
-        10 => Form::Rule(RuleWord::Differ),
+        // sub
+        23229811 => Form::Rule(RuleWord::Sub),
+        // rsub
+        5946831730 => Form::Rule(RuleWord::RoleSub),
+        // chain
+        1573726021731 => Form::Rule(RuleWord::Chain),
+        // ref
+        23487858 => Form::Rule(RuleWord::Ref),
+        // irr
+        24277609 => Form::Rule(RuleWord::Irr),
+        // dis
+        24340836 => Form::Rule(RuleWord::Dis),
+        // in
+        93801 => Form::Rule(RuleWord::In),
+        // rel
+        23881074 => Form::Rule(RuleWord::Rel),
+        // norel
+        1565070094190 => Form::Rule(RuleWord::NoRel),
+        // same
+        5996634483 => Form::Rule(RuleWord::Same),
+        // differ
+        407254811961700 => Form::Rule(RuleWord::Differ),
         _ => Form::Unknown,
     }
 }
@@ -89,33 +131,37 @@ fn rule_form(f: &[u8]) -> Form
 fn is_rule(f: &[u8]) -> bool
     ensures { λ r. ⌜ r ≡ isRule (now (f .entry)) ⌝ }
 {
-    text::part::same(f, b"rule")
+    crate::code::code(f) == 5996574066
 }
 
 // What a line is, by its word or words.
-pub fn form(line: &[u8]) -> Form
+pub fn form(line: &[u8], ends: &[u16]) -> Form
+    requires { ⌜ Looked (now line) (now ends) ⌝ }
     ensures { λ r. ⌜ r ≡ formOf (fields (now (line .entry))) ⌝ }
 {
-    let w = text::line::field(line, 0);
+    let w = text::scan::field(line, ends, 0);
     if is_rule(w) {
-        let at = text::line::past(line, 0);
-        if at <= line.len() {
-            return rule_form(text::line::field(line, at));
+        if 1 < ends.len() {
+            return rule_form(text::scan::field(line, ends, 1));
         }
         return Form::Bare;
     }
     line_form(w)
 }
 
-// Where the fields after the word or words of a line begin.
-pub fn body(line: &[u8]) -> usize
-    ensures { λ r. ⌜ partsFrom 9 (now (line .entry)) r ≡ bodyOf (fields (now (line .entry))) ⌝ }
+// How many words a line begins with.
+pub fn words(f: Form) -> usize
+    ensures { λ r. ⌜ r ≡ wordsOf f ⌝ }
 {
-    let at = text::line::past(line, 0);
-    if is_rule(text::line::field(line, 0)) {
-        return text::line::past(line, at);
+    match f {
+        Form::Concept => 1,
+        Form::Role => 1,
+        Form::Item => 1,
+        Form::Statement(_) => 1,
+        Form::Rule(_) => 2,
+        Form::Bare => 2,
+        Form::Unknown => 1,
     }
-    at
 }
 
 // The section that a line is in.
@@ -131,18 +177,4 @@ pub fn section(f: Form) -> Section
         Form::Bare => Section::Rules,
         Form::Unknown => Section::None,
     }
-}
-
-// How many fields there are after the word or words of a line.
-pub fn body_count(line: &[u8]) -> usize
-    ensures { λ r. ⌜ r ≡ length (bodyOf (fields (now (line .entry)))) ⌝ }
-{
-    let n = text::part::count(line, 9);
-    if is_rule(text::line::field(line, 0)) {
-        if n < 2 {
-            return 0;
-        }
-        return n - 2;
-    }
-    n - 1
 }

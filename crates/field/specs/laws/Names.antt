@@ -6,8 +6,8 @@ use Prim.Native.Nat.{ℕ, zero, suc, _-_, _≤_, min}
 use native.Mathlib.Omega.{arith}
 use borrow.Author.Tests.{eq-eqb, ne-eqb}
 use lib.Dec.{leb, ltb}
-use lib.ListN.{length, getD, drop, length-map, length-drop, List·getD-eq-default}
-use lib.Seq.{length-take-le, take-all}
+use lib.ListN.{length, getD, drop, length-drop, List·getD-eq-default}
+use lib.Seq.{take-all}
 use Rattle.text.specs.own.Split.{partOf}
 use Rattle.text.specs.Bytes.{place}
 use Rattle.text.specs.Date.{digit, dateShaped}
@@ -16,7 +16,7 @@ use Rattle.store.specs.Layout.{conceptLimit, roleLimit, itemLimit, width}
 use Rattle.rule.specs.Form.{countLimit}
 use Rattle.field.specs.declared.Due.the-variants as due
 use Rattle.field.specs.Names.{Names, reserved, inverted, plain, countOf, isCount, fault, newFault, nameFault, fieldFault, lowerFault}
-use Rattle.field.specs.own.Table.{Placed, entered}
+use Rattle.field.specs.own.Table.{Placed}
 use Rattle.field.specs.Words.{Field}
 
 -- ---- the first byte of a field
@@ -37,11 +37,6 @@ module _ (f : Field) where
 
   pub plain-itself : inverted f ≡ false → f ≡ plain f
   plain-itself e = rw e
-
--- ---- tables
-
-pub entered-length : (sheet : List ℕ) (n : ℕ) (entries : List ℕ) → n ≤ length entries → length (entered sheet n entries) ≡ n
-entered-length sheet n entries h = rw length-map (length-take-le n entries h)
 
 -- ---- what is wrong with a name
 

@@ -1,15 +1,19 @@
 -- The reader's own records of the declared names: places in the sheet.
 use mathlib.Core.Path.{_≡_}
-use mathlib.Core.Bool.{cond}
+use mathlib.Core.Bool.{Bool, true, cond, not, _&&_}
 use mathlib.Core.List.{List, [], map}
-use Prim.Native.Nat.{ℕ, _+_, _-_, _*_, _/_, _%_}
-use lib.Dec.{eqb}
-use lib.ListN.{length, getD, take, set}
+use Prim.Native.Nat.{ℕ, _+_, _-_, _*_, _/_, _%_, _≤_}
+use lib.Dec.{eqb, leb}
+use lib.ListN.{length, getD, take, drop, set}
+use Rattle.text.specs.own.Chunk.{low}
 use Rattle.text.specs.own.Split.{partOf}
 use Rattle.text.specs.Bytes.{place as placeOf}
+use Rattle.logic.specs.Number.{Distinct, One}
+use Rattle.text.specs.Name.{isName}
+use Rattle.store.specs.declared.Counts.{Counts}
 use Rattle.store.specs.Layout.{Fits, width, conceptLimit, roleLimit, itemLimit}
-use Rattle.field.specs.declared.Table.{Table}
-use Rattle.field.specs.Names.{Names}
+use Rattle.field.specs.Names.{Names, reserved}
+use Rattle.field.specs.Words.{Field}
 
 -- the most fields of a line-up
 abbrev pub lineupLimit : ℕ
@@ -44,58 +48,90 @@ entryOf w place = tagOf w * taggedCount + (place * lengthCount + length w)
 abbrev pub nameAt : List ℕ → ℕ → List ℕ
 nameAt sheet p = tagged (p / taggedCount) (partOf sheet (p / lengthCount % placeCount) (p % lengthCount))
 
--- the names of the first n entries
-abbrev pub entered : List ℕ → ℕ → List ℕ → List (List ℕ)
-entered sheet n entries = map (nameAt sheet) (take n entries)
+-- where the entries of the roles and of the items begin, after those of the concepts; where the hints do, and how many there are
+abbrev pub rolesFrom : ℕ
+rolesFrom = conceptLimit
+
+abbrev pub itemsFrom : ℕ
+itemsFrom = rolesFrom + roleLimit
+
+abbrev pub hintsFrom : ℕ
+hintsFrom = itemsFrom + itemLimit width
+
+abbrev pub hintCount : ℕ
+hintCount = 1024
+
+abbrev pub numberCount : ℕ
+numberCount = hintsFrom + hintCount
+
+-- a number made of a name's first four bytes and its last four, or of its tag
+unfoldable pub keyOf : List ℕ → ℕ
+keyOf w = cond (leb 4 (length w)) ((low (partOf w 0 4) * 113173225 + low (partOf w (length w - 4) 4) * 1008168907) / 67108864 % hintCount) (tagOf w % hintCount)
+
+-- where the hint for a name stands, among the names whose entries begin at a place
+abbrev pub hintAt : ℕ → List ℕ → ℕ
+hintAt from w = hintsFrom + (keyOf w + from) % hintCount
+
+-- the names of the n entries from a place on
+abbrev pub entered : List ℕ → List ℕ → ℕ → ℕ → List (List ℕ)
+entered sheet numbers from n = map (nameAt sheet) (take n (drop from numbers))
+
+-- the numbers lent for names, and how many names there are
+pub record Table : Type 0 where
+  pub numbers : List ℕ
+  pub counts : Counts
+
+abbrev pub tableOf : List ℕ → Counts → Table
+tableOf numbers counts = record { numbers = numbers; counts = counts }
 
 -- the names of a table
 abbrev pub namesOf : List ℕ → Table → Names
 namesOf sheet t =
     record {
-      concepts = entered sheet (t .counts .concepts) (t .concepts);
-      roles = entered sheet (t .counts .roles) (t .roles);
-      items = entered sheet (t .counts .items) (t .items);
+      concepts = entered sheet (t .numbers) 0 (t .counts .concepts);
+      roles = entered sheet (t .numbers) rolesFrom (t .counts .roles);
+      items = entered sheet (t .numbers) itemsFrom (t .counts .items);
     }
 
--- the table with one name more
-abbrev pub withConcept : Table → ℕ → Table
-withConcept t p =
-    record {
-      concepts = set (t .concepts) (t .counts .concepts) p;
-      roles = t .roles;
-      items = t .items;
-      counts = record { items = t .counts .items; concepts = t .counts .concepts + 1; roles = t .counts .roles };
-    }
-
-abbrev pub withRole : Table → ℕ → Table
-withRole t p =
-    record {
-      concepts = t .concepts;
-      roles = set (t .roles) (t .counts .roles) p;
-      items = t .items;
-      counts = record { items = t .counts .items; concepts = t .counts .concepts; roles = t .counts .roles + 1 };
-    }
-
-abbrev pub withItem : Table → ℕ → Table
-withItem t p =
-    record {
-      concepts = t .concepts;
-      roles = t .roles;
-      items = set (t .items) (t .counts .items) p;
-      counts = record { items = t .counts .items + 1; concepts = t .counts .concepts; roles = t .counts .roles };
-    }
+-- an entry was put into the numbers at a place before the hints, and a hint at its place; no hint was taken out
+pub record Noted (numbers : List ℕ) (place p hint : ℕ) (exit : List ℕ) : Type 0 where
+  pub entries : take hintsFrom exit ≡ take hintsFrom (set numbers place p)
+  pub long : length exit ≡ length numbers
+  pub here : getD exit hint 0 ≡ 0 → ⊥
+  pub still : (k : ℕ) → hintsFrom ≤ k → getD exit k 0 ≡ 0 → getD numbers k 0 ≡ 0
 
 -- the place k of the name w among the names, of which there are n
 pub record Placed (w : List ℕ) (names : List (List ℕ)) (n k : ℕ) : Type 0 where
   pub place : k ≡ placeOf w names
   pub count : length names ≡ n
 
--- a table with no more names than there is room for
-abbrev pub Roomy : Table → Type 0
-Roomy t = Fits width (t .counts)
+-- the names declared so far of one kind: none of them twice, and all of them good
+pub record Listed (good : Field → Bool) (names : List Field) : Type 0 where
+  pub distinct : Distinct names
+  pub all : (f : Field) → One f names → good f ≡ true
 
--- the entries of a table have their places
-pub record Places (t : Table) : Type 0 where
-  pub concepts : length (t .concepts) ≡ conceptLimit
-  pub roles : length (t .roles) ≡ roleLimit
-  pub items : length (t .items) ≡ itemLimit width
+-- a name that a concept may have
+abbrev pub conceptName : Field → Bool
+conceptName f = isName f && not (reserved f)
+
+-- the names declared so far
+pub record Proper (n : Names) : Type 0 where
+  pub concepts : Listed conceptName (n .concepts)
+  pub roles : Listed isName (n .roles)
+  pub items : Listed isName (n .items)
+
+-- each of the names has a hint, which is not 0; where it points to is only tried
+abbrev pub Hinted : List ℕ → ℕ → List Field → Type 0
+Hinted numbers from names = (w : Field) → One w names → getD numbers (hintAt from w) 0 ≡ 0 → ⊥
+
+pub record AllHinted (numbers : List ℕ) (n : Names) : Type 0 where
+  pub concepts : Hinted numbers 0 (n .concepts)
+  pub roles : Hinted numbers rolesFrom (n .roles)
+  pub items : Hinted numbers itemsFrom (n .items)
+
+-- a table with no more names than there is room for, all as declarations leave them
+pub record Tidy (sheet : List ℕ) (t : Table) : Type 0 where
+  pub long : length (t .numbers) ≡ numberCount
+  pub room : Fits width (t .counts)
+  pub proper : Proper (namesOf sheet t)
+  pub hinted : AllHinted (t .numbers) (namesOf sheet t)

@@ -17,9 +17,6 @@ Inv-loop sheet entries w key i₀ i = (i ≤ length entries) × (place w (map (n
 abbrev μ-loop : tie.MeasureT-loop
 μ-loop sheet entries w key i₀ i = length entries - i
 
-tag-requires : tie.Need-tag-requires Inv-loop μ-loop
-tag-requires c κs = search needs
-
 loop-holds : tie.Need-loop-holds Inv-loop μ-loop
 loop-holds c = (search needs, omega arith)
 
@@ -35,7 +32,7 @@ entry-is-requires c κs = search needs
 returns : tie.Need-returns Inv-loop μ-loop
 returns c =
     let v = c .before .before .before .before .loop in
-    let x = c .before .before .before .before .before .before .before .before .before .args in
+    let x = c .before .before .before .before .before .before .before .before .args in
     omega (arith, v .inv .1, table-here (x .w .now) (nameAt (x .sheet .now)) (x .entries .now) (v .i) (omega arith) (sym (c .before .entry-is .ensures) ∙ c .if1 .taken))
 
 add-i : tie.Need-add-i Inv-loop μ-loop
@@ -47,13 +44,13 @@ loop-less c = search needs
 loop-again : tie.Need-loop-again Inv-loop μ-loop
 loop-again c =
     let v = c .before .before .before .before .loop in
-    let x = c .before .before .before .before .before .before .before .before .before .args in
+    let x = c .before .before .before .before .before .before .before .before .args in
     (search needs, omega (arith, v .inv .1, table-on (x .w .now) (nameAt (x .sheet .now)) (x .entries .now) (v .i) (omega arith) (sym (c .before .entry-is .ensures) ∙ c .if1 .left)))
 
 returns-2 : tie.Need-returns-2 Inv-loop μ-loop
 returns-2 c =
     let v = c .before .loop in
-    let x = c .before .before .before .before .before .before .args in
+    let x = c .before .before .before .before .before .args in
     omega (arith, v .inv .1, table-out (x .w .now) (nameAt (x .sheet .now)) (x .entries .now) (v .i) (omega arith))
 
 pub place-in-spec : {M : Type 1} → statement M
@@ -62,7 +59,6 @@ place-in-spec =
     (tie.spec
     Inv-loop
     μ-loop
-    tag-requires
     loop-holds
     mul-entry-is
     shared-slice-read-entry-is

@@ -1,0 +1,24 @@
+-- The reader's own records of a line: where its fields end, and how many words it begins with.
+use mathlib.Core.Path.{_≡_}
+use mathlib.Core.List.{List}
+use Prim.Native.Nat.{ℕ}
+use lib.ListN.{length}
+use Rattle.text.specs.Split.{fields}
+use Rattle.text.specs.own.Scan.{Ended}
+use Rattle.field.specs.declared.Form.{Form}
+use Rattle.field.specs.declared.Form.the-variants as form
+
+-- the line was looked at: these are the ends of its fields
+pub record Looked (line ends : List ℕ) : Type 0 where
+  pub ended : Ended line ends
+  pub count : length ends ≡ length (fields line)
+
+-- how many words a line begins with
+abbrev pub wordsOf : Form → ℕ
+wordsOf form.Concept = 1
+wordsOf form.Role = 1
+wordsOf form.Item = 1
+wordsOf (form.Statement w) = 1
+wordsOf (form.Rule w) = 2
+wordsOf form.Bare = 2
+wordsOf form.Unknown = 1
