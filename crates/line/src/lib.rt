@@ -41,6 +41,8 @@ impl Sheet {
     pub const BYTES: usize = 32768;
     // The most bytes of a line, without its line feed.
     pub const LINE: usize = 512;
+    // The most fields of a line.
+    pub const FIELDS: usize = Sheet::LINE + 1;
     // The most rules of a sheet.
     pub const RULES: usize = 64;
     // The most findings that are printed.

@@ -1,19 +1,22 @@
 ghost use mathlib.Core.Path.{_≡_};
-ghost use Prim.Native.Nat.{_≤_};
+ghost use Prim.Native.Nat.{_-_, _≤_};
 ghost use lib.Dec.{ltb};
-ghost use lib.ListN.{length};
+ghost use lib.ListN.{length, drop};
+ghost use Rattle.text.specs.Bytes.{every};
+ghost use Rattle.text.specs.Name.{lineByte};
 ghost use Rattle.text.specs.Split.{fields};
 ghost use Rattle.rule.specs.Form.{nodeLimit};
 ghost use Rattle.field.specs.Names.{fault};
 ghost use Rattle.line.specs.Fault.{ended as endedBy, fieldsFault, formFault, full as fullBy, headerFault, lineFault, lineLimit, unknown as unknownBy};
-ghost use Rattle.field.specs.own.Table.{Roomy, namesOf};
+ghost use Rattle.field.specs.own.Table.{Tidy, namesOf, tableOf};
 ghost use Rattle.field.specs.Words.{bodyOf, formOf};
+ghost use Rattle.field.specs.own.Line.{Looked, wordsOf};
 use crate::Marks;
 use crate::Sheet;
 use field::Form;
 use field::Section;
-use field::Table;
 use rule::Rule;
+use store::Counts;
 
 // Whether the section has ended.
 fn ended(m: Marks, s: Section) -> bool
@@ -69,13 +72,32 @@ fn size_fault(filled: bool, nodes: usize) -> usize
     0
 }
 
-// What is wrong with the fields of a line of the form given.
-fn fields_fault(sheet: &[u8], t: Table, m: Marks, line: &[u8], f: Form) -> usize
-    requires { ⌜ Roomy t × (length (now line) ≤ lineLimit) ⌝ }
-    ensures { λ r. ⌜ r ≡ fieldsFault (namesOf (now (sheet .entry)) t) m f (bodyOf (fields (now (line .entry)))) ⌝ }
+// What is left of n after the first k.
+fn after(n: usize, k: usize) -> usize
+    ensures { λ r. ⌜ r ≡ n - k ⌝ }
 {
-    let l = crate::dues::lineup(f, field::words::body_count(line));
-    let w = crate::walk::walk(sheet, t, line, field::words::body(line), l);
+    if n < k {
+        return 0;
+    }
+    n - k
+}
+
+// What is wrong with the fields of a line of the form given, after its word or words.
+fn fields_fault(
+    sheet: &[u8],
+    names: &[u32],
+    counts: Counts,
+    m: Marks,
+    line: &[u8],
+    ends: &[u16],
+    f: Form,
+) -> usize
+    requires { ⌜ Tidy (now sheet) (tableOf (now names) counts) × Looked (now line) (now ends) × (length (now line) ≤ lineLimit) ⌝ }
+    ensures { λ r. ⌜ r ≡ fieldsFault (namesOf (now (sheet .entry)) (tableOf (now (names .entry)) counts)) m f (drop (wordsOf f) (fields (now (line .entry)))) ⌝ }
+{
+    let from = field::words::words(f);
+    let l = crate::dues::lineup(f, after(ends.len(), from));
+    let w = crate::walk::walk(sheet, names, counts, line, ends, from, l);
     if !w.fits {
         return 14;
     }
@@ -84,11 +106,18 @@ fn fields_fault(sheet: &[u8], t: Table, m: Marks, line: &[u8], f: Form) -> usize
 }
 
 // What is wrong with a line, by its form.
-fn form_fault(sheet: &[u8], t: Table, m: Marks, line: &[u8]) -> usize
-    requires { ⌜ Roomy t × (length (now line) ≤ lineLimit) ⌝ }
-    ensures { λ r. ⌜ r ≡ formFault (namesOf (now (sheet .entry)) t) m (formOf (fields (now (line .entry)))) (bodyOf (fields (now (line .entry)))) ⌝ }
+fn form_fault(
+    sheet: &[u8],
+    names: &[u32],
+    counts: Counts,
+    m: Marks,
+    line: &[u8],
+    ends: &[u16],
+) -> usize
+    requires { ⌜ Tidy (now sheet) (tableOf (now names) counts) × Looked (now line) (now ends) × (length (now line) ≤ lineLimit) ⌝ }
+    ensures { λ r. ⌜ r ≡ formFault (namesOf (now (sheet .entry)) (tableOf (now (names .entry)) counts)) m (formOf (fields (now (line .entry)))) (bodyOf (fields (now (line .entry)))) ⌝ }
 {
-    let f = field::words::form(line);
+    let f = field::words::form(line, ends);
     let s = field::words::section(f);
     if unknown(s) {
         return 12;
@@ -96,13 +125,21 @@ fn form_fault(sheet: &[u8], t: Table, m: Marks, line: &[u8]) -> usize
     if ended(m, s) {
         return 13;
     }
-    fields_fault(sheet, t, m, line, f)
+    fields_fault(sheet, names, counts, m, line, ends, f)
 }
 
-// What is wrong with a line after the first: the lowest number that applies, or 0.
-pub fn line_fault(sheet: &[u8], t: Table, m: Marks, line: &[u8]) -> usize
-    requires { ⌜ Roomy t ⌝ }
-    ensures { λ r. ⌜ r ≡ lineFault (namesOf (now (sheet .entry)) t) m (now (line .entry)) ⌝ }
+// What is wrong with a line after the first, whose bytes are good or not, and which was looked at if it is not too long: the lowest number that applies, or 0.
+pub fn line_fault(
+    sheet: &[u8],
+    names: &[u32],
+    counts: Counts,
+    m: Marks,
+    line: &[u8],
+    good: bool,
+    ends: &[u16],
+) -> usize
+    requires { ⌜ Tidy (now sheet) (tableOf (now names) counts) × (good ≡ every lineByte (now line)) × (length (now line) ≤ lineLimit → Looked (now line) (now ends)) ⌝ }
+    ensures { λ r. ⌜ r ≡ lineFault (namesOf (now (sheet .entry)) (tableOf (now (names .entry)) counts)) m (now (line .entry)) ⌝ }
 {
     if line.len() == 0 {
         return 0;
@@ -110,10 +147,10 @@ pub fn line_fault(sheet: &[u8], t: Table, m: Marks, line: &[u8]) -> usize
     if Sheet::LINE < line.len() {
         return 10;
     }
-    if !text::name::line_bytes(line) {
+    if !good {
         return 10;
     }
-    form_fault(sheet, t, m, line)
+    form_fault(sheet, names, counts, m, line, ends)
 }
 
 // What is wrong with line 1.

@@ -1,21 +1,22 @@
 ghost use mathlib.Core.Path.{_≡_};
 ghost use mathlib.Core.Bool.{cond};
 ghost use Prim.Native.Nat.{_≤_, _<_};
-ghost use lib.ListN.{length, getD};
-ghost use Rattle.text.specs.own.Split.{partsFrom};
+ghost use lib.ListN.{length, getD, drop};
+ghost use Rattle.text.specs.Split.{fields};
 ghost use Rattle.field.specs.Due.{dues, isExpr};
 ghost use Rattle.field.specs.Names.{nodesOf};
 ghost use Rattle.line.specs.Fault.{none, lineLimit};
-ghost use Rattle.field.specs.own.Table.{Roomy, namesOf};
+ghost use Rattle.field.specs.own.Table.{Tidy, namesOf, tableOf};
 ghost use Rattle.line.specs.own.Walk.{Step, WalkedBy, opening, pending, plenty};
 ghost use Rattle.field.specs.Words.{operatorOf};
+ghost use Rattle.field.specs.own.Line.{Looked};
 use crate::Lead;
 use crate::Pending;
 use crate::Walked;
 use field::Due;
 use field::Lineup;
 use field::Operator;
-use field::Table;
+use store::Counts;
 
 // What is still due, by its parts.
 fn pend(lead: Lead, exprs: usize, own: usize) -> Pending
@@ -160,16 +161,24 @@ fn word_in(d: Due, f: &[u8]) -> Operator
     Operator::None
 }
 
-// What the fields of a line from a place on come to, where the line-up is due.
-pub fn walk(sheet: &[u8], t: Table, line: &[u8], from: usize, l: Lineup) -> Walked
-    requires { ⌜ Roomy t × (length (now line) ≤ lineLimit) ⌝ }
-    ensures { λ r. ⌜ WalkedBy (namesOf (now (sheet .entry)) t) (dues l) (partsFrom 9 (now (line .entry)) from) r ⌝ }
+// What the fields of a line come to, from the one with the number `from` on, where the line-up is due.
+pub fn walk(
+    sheet: &[u8],
+    names: &[u32],
+    counts: Counts,
+    line: &[u8],
+    ends: &[u16],
+    from: usize,
+    l: Lineup,
+) -> Walked
+    requires { ⌜ Tidy (now sheet) (tableOf (now names) counts) × Looked (now line) (now ends) × (length (now line) ≤ lineLimit) ⌝ }
+    ensures { λ r. ⌜ WalkedBy (namesOf (now (sheet .entry)) (tableOf (now (names .entry)) counts)) (dues l) (drop from (fields (now (line .entry)))) r ⌝ }
 {
-    let mut at = from;
+    let mut k = from;
     let mut p = pend(Lead::None, 0, 0);
     let mut fault = 0;
     let mut nodes = 0;
-    while at <= line.len() {
+    while k < ends.len() {
         if none_left(l, p) {
             return Walked {
                 fits: false,
@@ -177,13 +186,13 @@ pub fn walk(sheet: &[u8], t: Table, line: &[u8], from: usize, l: Lineup) -> Walk
                 nodes,
             };
         }
-        let f = text::line::field(line, at);
+        let f = text::scan::field(line, ends, k);
         let d = next_due(l, p);
         let o = word_in(d, f);
-        fault = crate::faults::lower(fault, crate::faults::field(sheet, t, d, f));
+        fault = crate::faults::lower(fault, crate::faults::field(sheet, names, counts, d, f));
         nodes += due_nodes(d, o);
         p = step(l, p, o);
-        at = text::line::past(line, at);
+        k += 1;
     }
     Walked {
         fits: none_left(l, p),

@@ -1,2 +1,3 @@
 -- The code's own records, which no promise mentions.
+pub mod Packed
 pub mod Nodes

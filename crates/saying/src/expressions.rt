@@ -1,42 +1,50 @@
 ghost use mathlib.Core.Path.{_≡_};
+ghost use mathlib.Core.List.{[], _∷_};
 ghost use Prim.Native.Nat.{_+_, _≤_, _<_};
-ghost use Rattle.text.specs.own.Split.{partsFrom};
+ghost use lib.ListN.{length, drop};
+ghost use Rattle.text.specs.Split.{fields};
 ghost use Rattle.rule.specs.Form.{nodeLimit};
 ghost use Rattle.field.specs.Names.{nodesOf};
-ghost use Rattle.saying.specs.own.Nodes.{ReadsOne, Ready, WordTaken, childrenOf, fillAnd, headFields, headNodes, joining, putting, puttingAll};
-ghost use Rattle.field.specs.own.Table.{Roomy, namesOf};
+ghost use Rattle.field.specs.own.Line.{Looked};
+ghost use Rattle.field.specs.own.Table.{Tidy, namesOf, tableOf};
+ghost use Rattle.saying.specs.own.Packed.{packLimit};
+ghost use Rattle.saying.specs.own.Nodes.{Joined, PutAll, ReadsOne, Ready, childrenOf, fillAnd, headFields, headNodes};
+use crate::Packed;
 use crate::Parsed;
 use field::Operator;
-use field::Table;
 use rule::Node;
-use rule::Slot;
+use store::Counts;
 
-// One node more.
-fn put(p: Parsed, node: Node) -> Parsed
-    requires { ⌜ p .len < nodeLimit ⌝ }
-    ensures { λ r. ⌜ r ≡ putting p node ⌝ }
+// One node more; gives how many there are.
+fn put(nodes: &mut [usize], len: usize, node: Node) -> usize
+    requires { ⌜ (length (now nodes) ≡ packLimit) × (len < nodeLimit) ⌝ }
+    ensures { λ r. ⌜ PutAll (now (nodes .entry)) len (node ∷ []) (now (nodes .exit)) r ⌝ }
 {
-    let mut q = p;
-    let n = p.len;
-    q.nodes[n] = Slot { node };
-    q.len = n + 1;
-    q
+    let p = crate::packs::pack(node);
+    let i = Packed::NUMBERS * len;
+    nodes[i] = p.kind;
+    nodes[i + 1] = p.first;
+    nodes[i + 2] = p.second;
+    nodes[i + 3] = p.third;
+    len + 1
 }
 
 // Two nodes more.
-fn put_two(p: Parsed, a: Node, b: Node) -> Parsed
-    requires { ⌜ p .len + 2 ≤ nodeLimit ⌝ }
-    ensures { λ r. ⌜ r ≡ putting (putting p a) b ⌝ }
+fn put_two(nodes: &mut [usize], len: usize, a: Node, b: Node) -> usize
+    requires { ⌜ (length (now nodes) ≡ packLimit) × (len + 2 ≤ nodeLimit) ⌝ }
+    ensures { λ r. ⌜ PutAll (now (nodes .entry)) len (a ∷ b ∷ []) (now (nodes .exit)) r ⌝ }
 {
-    put(put(p, a), b)
+    let n = put(nodes, len, a);
+    put(nodes, n, b)
 }
 
 // Three nodes more.
-fn put_three(p: Parsed, a: Node, b: Node, c: Node) -> Parsed
-    requires { ⌜ p .len + 3 ≤ nodeLimit ⌝ }
-    ensures { λ r. ⌜ r ≡ putting (putting (putting p a) b) c ⌝ }
+fn put_three(nodes: &mut [usize], len: usize, a: Node, b: Node, c: Node) -> usize
+    requires { ⌜ (length (now nodes) ≡ packLimit) × (len + 3 ≤ nodeLimit) ⌝ }
+    ensures { λ r. ⌜ PutAll (now (nodes .entry)) len (a ∷ b ∷ c ∷ []) (now (nodes .exit)) r ⌝ }
 {
-    put(put(put(p, a), b), c)
+    let n = put_two(nodes, len, a, b);
+    put(nodes, n, c)
 }
 
 // How many fields a word takes with it, itself counted.
@@ -59,53 +67,68 @@ fn head_fields(o: Operator) -> usize
     }
 }
 
-// The nodes that a word stands for, written after those of p; the place stays where it is.
-fn put_head(sheet: &[u8], t: Table, line: &[u8], p: Parsed, o: Operator) -> Parsed
-    requires { ⌜ Roomy t × (p .len + nodesOf o ≤ nodeLimit) ⌝ }
-    ensures { λ r. ⌜ r ≡ puttingAll p (headNodes (namesOf (now (sheet .entry)) t) o (p .len) (partsFrom 9 (now (line .entry)) (p .at))) ⌝ }
+// The nodes that a word stands for, written after the first i; gives how many there are then. The word is the field with the number k.
+fn put_head(
+    sheet: &[u8],
+    names: &[u32],
+    counts: Counts,
+    line: &[u8],
+    ends: &[u16],
+    nodes: &mut [usize],
+    i: usize,
+    k: usize,
+    o: Operator,
+) -> usize
+    requires { ⌜ Tidy (now sheet) (tableOf (now names) counts) × Looked (now line) (now ends) × (length (now nodes) ≡ packLimit) × (i + nodesOf o ≤ nodeLimit) × (k < length (now ends)) ⌝ }
+    ensures { λ r. ⌜ PutAll (now (nodes .entry)) i (headNodes (namesOf (now (sheet .entry)) (tableOf (now (names .entry)) counts)) o i (drop k (fields (now (line .entry))))) (now (nodes .exit)) r ⌝ }
 {
-    let i = p.len;
-    let at = p.at;
     match o {
-        Operator::And => put(p, Node::And(i + 1, 0)),
-        Operator::Or => put_three(p, Node::Not(i + 1), Node::And(i + 2, 0), Node::Not(i + 3)),
-        Operator::Not => put(p, Node::Not(i + 1)),
+        Operator::And => put(nodes, i, Node::And(i + 1, 0)),
+        Operator::Or => put_three(
+            nodes,
+            i,
+            Node::Not(i + 1),
+            Node::And(i + 2, 0),
+            Node::Not(i + 3),
+        ),
+        Operator::Not => put(nodes, i, Node::Not(i + 1)),
         Operator::Some => {
-            let u = crate::numbers::role_use(sheet, t, line, at, 1);
-            put(p, Node::AtLeast(1, u, i + 1))
+            let u = crate::numbers::role_use(sheet, names, counts, line, ends, k + 1);
+            put(nodes, i, Node::AtLeast(1, u, i + 1))
         }
         Operator::All => {
-            let u = crate::numbers::role_use(sheet, t, line, at, 1);
+            let u = crate::numbers::role_use(sheet, names, counts, line, ends, k + 1);
             put_three(
-                p,
+                nodes,
+                i,
                 Node::Not(i + 1),
                 Node::AtLeast(1, u, i + 2),
                 Node::Not(i + 3),
             )
         }
         Operator::AtLeast => {
-            let u = crate::numbers::role_use(sheet, t, line, at, 2);
-            let k = field::names::count(crate::numbers::nth(line, at, 1));
-            put(p, Node::AtLeast(k, u, i + 1))
+            let u = crate::numbers::role_use(sheet, names, counts, line, ends, k + 2);
+            let m = field::names::count(crate::numbers::nth(line, ends, k + 1));
+            put(nodes, i, Node::AtLeast(m, u, i + 1))
         }
         Operator::AtMost => {
-            let u = crate::numbers::role_use(sheet, t, line, at, 2);
-            let k = field::names::count(crate::numbers::nth(line, at, 1));
-            put_two(p, Node::Not(i + 1), Node::AtLeast(k + 1, u, i + 2))
+            let u = crate::numbers::role_use(sheet, names, counts, line, ends, k + 2);
+            let m = field::names::count(crate::numbers::nth(line, ends, k + 1));
+            put_two(nodes, i, Node::Not(i + 1), Node::AtLeast(m + 1, u, i + 2))
         }
         Operator::SelfOf => {
-            let u = crate::numbers::role_use(sheet, t, line, at, 1);
-            put(p, Node::SelfOf(u))
+            let u = crate::numbers::role_use(sheet, names, counts, line, ends, k + 1);
+            put(nodes, i, Node::SelfOf(u))
         }
         Operator::One => {
-            let a = crate::numbers::item(sheet, t, line, at, 1);
-            put(p, Node::One(a))
+            let a = crate::numbers::item(sheet, names, counts, line, ends, k + 1);
+            put(nodes, i, Node::One(a))
         }
-        Operator::Top => put(p, Node::Top),
-        Operator::Bot => put_two(p, Node::Not(i + 1), Node::Top),
+        Operator::Top => put(nodes, i, Node::Top),
+        Operator::Bot => put_two(nodes, i, Node::Not(i + 1), Node::Top),
         Operator::None => {
-            let a = crate::numbers::concept(sheet, t, line, at, 0);
-            put(p, Node::Name(a))
+            let a = crate::numbers::concept(sheet, names, counts, line, ends, k);
+            put(nodes, i, Node::Name(a))
         }
     }
 }
@@ -131,71 +154,74 @@ fn children(o: Operator) -> usize
 }
 
 // The `and` at a place gets its second child: the next node.
-fn fill_and(p: Parsed, i: usize) -> Parsed
-    requires { ⌜ i < nodeLimit ⌝ }
-    ensures { λ r. ⌜ r ≡ fillAnd p i ⌝ }
+fn fill_and(nodes: &mut [usize], i: usize, len: usize)
+    requires { ⌜ (length (now nodes) ≡ packLimit) × (i < nodeLimit) ⌝ }
+    ensures { λ _. ⌜ now (nodes .exit) ≡ fillAnd (now (nodes .entry)) i len ⌝ }
 {
-    let mut q = p;
-    q.nodes[i] = Slot {
-        node: Node::And(i + 1, p.len),
-    };
-    q
+    nodes[Packed::NUMBERS * i + 2] = len;
 }
 
-// What stands before the nodes of the second child of a word whose nodes begin at a place.
-fn join(o: Operator, p: Parsed, i: usize) -> Parsed
-    requires { ⌜ (i + 1 < nodeLimit) × (p .len < nodeLimit) ⌝ }
-    ensures { λ r. ⌜ r ≡ joining o p i ⌝ }
+// What stands before the nodes of the second child of a word whose nodes begin at a place; gives how many nodes there are then.
+fn join(o: Operator, nodes: &mut [usize], i: usize, len: usize) -> usize
+    requires { ⌜ (length (now nodes) ≡ packLimit) × (i + 1 < nodeLimit) × (len < nodeLimit) ⌝ }
+    ensures { λ r. ⌜ Joined o (now (nodes .entry)) i len (now (nodes .exit)) r ⌝ }
 {
     match o {
-        Operator::And => fill_and(p, i),
-        Operator::Or => put(fill_and(p, i + 1), Node::Not(p.len + 1)),
-        Operator::Not => p,
-        Operator::Some => p,
-        Operator::All => p,
-        Operator::AtLeast => p,
-        Operator::AtMost => p,
-        Operator::SelfOf => p,
-        Operator::One => p,
-        Operator::Top => p,
-        Operator::Bot => p,
-        Operator::None => p,
+        Operator::And => {
+            fill_and(nodes, i, len);
+            len
+        }
+        Operator::Or => {
+            fill_and(nodes, i + 1, len);
+            put(nodes, len, Node::Not(len + 1))
+        }
+        Operator::Not => len,
+        Operator::Some => len,
+        Operator::All => len,
+        Operator::AtLeast => len,
+        Operator::AtMost => len,
+        Operator::SelfOf => len,
+        Operator::One => len,
+        Operator::Top => len,
+        Operator::Bot => len,
+        Operator::None => len,
     }
 }
 
-// The nodes of the word at the place of p, and the place past it and what it takes with it.
-fn take_word(sheet: &[u8], t: Table, line: &[u8], p: Parsed, o: Operator) -> Parsed
-    requires { ⌜ Roomy t × (p .len + nodesOf o ≤ nodeLimit) ⌝ }
-    ensures { λ r. ⌜ WordTaken (namesOf (now (sheet .entry)) t) (now (line .entry)) o p r ⌝ }
-{
-    let head = put_head(sheet, t, line, p, o);
-    let nodes = head.nodes;
-    let at = crate::numbers::skip(line, p.at, head_fields(o));
-    Parsed {
-        nodes,
-        len: head.len,
-        at,
-    }
-}
-
-// Reads the expression at the place of p, of at most `left` words in depth, and writes its nodes after those of p.
-pub fn read_expr(sheet: &[u8], t: Table, line: &[u8], p: Parsed, left: usize) -> Parsed
-    requires { ⌜ Roomy t × Ready (partsFrom 9 (now line) (p .at)) (p .len) left ⌝ }
-    ensures { λ r. ⌜ ReadsOne (namesOf (now (sheet .entry)) t) (now (line .entry)) left p r ⌝ }
+// Reads the expression that begins at the field p.at, of at most `left` words in depth, and writes its nodes after the first p.len.
+pub fn read_expr(
+    sheet: &[u8],
+    names: &[u32],
+    counts: Counts,
+    line: &[u8],
+    ends: &[u16],
+    nodes: &mut [usize],
+    p: Parsed,
+    left: usize,
+) -> Parsed
+    requires { ⌜ Tidy (now sheet) (tableOf (now names) counts) × Looked (now line) (now ends) × (length (now nodes) ≡ packLimit) × Ready (drop (p .at) (fields (now line))) (p .len) left ⌝ }
+    ensures { λ r. ⌜ ReadsOne (namesOf (now (sheet .entry)) (tableOf (now (names .entry)) counts)) (fields (now (line .entry))) left p (now (nodes .entry)) (now (nodes .exit)) r ⌝ }
 {
     if left == 0 {
         return p;
     }
-    let o = field::words::operator(text::line::field(line, p.at));
-    let word = take_word(sheet, t, line, p, o);
+    let o = field::words::operator(crate::numbers::nth(line, ends, p.at));
+    let len = put_head(sheet, names, counts, line, ends, nodes, p.len, p.at, o);
+    let word = Parsed {
+        len,
+        at: p.at + head_fields(o),
+    };
     let k = children(o);
     if k == 0 {
         return word;
     }
-    let first = read_expr(sheet, t, line, word, left - 1);
+    let first = read_expr(sheet, names, counts, line, ends, nodes, word, left - 1);
     if k == 1 {
         return first;
     }
-    let second = join(o, first, p.len);
-    read_expr(sheet, t, line, second, left - 1)
+    let second = Parsed {
+        len: join(o, nodes, p.len, first.len),
+        at: first.at,
+    };
+    read_expr(sheet, names, counts, line, ends, nodes, second, left - 1)
 }

@@ -1,72 +1,86 @@
 ghost use mathlib.Core.Path.{_≡_};
-ghost use lib.ListN.{drop};
-ghost use Rattle.text.specs.own.Split.{partsFrom};
+ghost use Rattle.text.specs.Split.{fields};
 ghost use Rattle.field.specs.Words.{at as fieldOf};
+ghost use Rattle.field.specs.own.Line.{Looked};
+ghost use Rattle.field.specs.own.Table.{Tidy, namesOf, tableOf};
 ghost use Rattle.saying.specs.Read.{conceptOf, itemOf, roleOf, roleUseOf};
-ghost use Rattle.field.specs.own.Table.{Roomy, namesOf};
-use field::Table;
 use rule::RoleUse;
 use store::Concept;
+use store::Counts;
 use store::Item;
 use store::Role;
 
-// The field with the number i among those from a place of the line on, from 0.
-pub fn nth(line: &[u8], from: usize, i: usize) -> &[u8]
-    ensures { λ r. ⌜ now r ≡ fieldOf i (partsFrom 9 (now (line .entry)) from) ⌝ }
+// The field of a line with the number k, from 0; no bytes where there is none.
+pub fn nth<'a>(line: &'a [u8], ends: &[u16], k: usize) -> &'a [u8]
+    requires { ⌜ Looked (now line) (now ends) ⌝ }
+    ensures { λ r. ⌜ now r ≡ fieldOf k (fields (now (line .entry))) ⌝ }
 {
-    let mut at = from;
-    let mut k = i;
-    while 0 < k {
-        at = text::line::past(line, at);
-        k -= 1;
+    if k < ends.len() {
+        text::scan::field(line, ends, k)
+    } else {
+        &line[..0]
     }
-    text::line::field(line, at)
 }
 
-// The concept that the field with the number i names.
-pub fn concept(sheet: &[u8], t: Table, line: &[u8], from: usize, i: usize) -> Concept
-    requires { ⌜ Roomy t ⌝ }
-    ensures { λ r. ⌜ r ≡ conceptOf (namesOf (now (sheet .entry)) t) (fieldOf i (partsFrom 9 (now (line .entry)) from)) ⌝ }
+// The concept that the field with the number k names.
+pub fn concept(
+    sheet: &[u8],
+    names: &[u32],
+    counts: Counts,
+    line: &[u8],
+    ends: &[u16],
+    k: usize,
+) -> Concept
+    requires { ⌜ Tidy (now sheet) (tableOf (now names) counts) × Looked (now line) (now ends) ⌝ }
+    ensures { λ r. ⌜ r ≡ conceptOf (namesOf (now (sheet .entry)) (tableOf (now (names .entry)) counts)) (fieldOf k (fields (now (line .entry)))) ⌝ }
 {
-    Concept(field::names::concept(sheet, t, nth(line, from, i)))
+    Concept(field::names::concept(sheet, names, counts, nth(line, ends, k)))
 }
 
-// The role that the field with the number i names.
-pub fn role(sheet: &[u8], t: Table, line: &[u8], from: usize, i: usize) -> Role
-    requires { ⌜ Roomy t ⌝ }
-    ensures { λ r. ⌜ r ≡ roleOf (namesOf (now (sheet .entry)) t) (fieldOf i (partsFrom 9 (now (line .entry)) from)) ⌝ }
+// The role that the field with the number k names.
+pub fn role(
+    sheet: &[u8],
+    names: &[u32],
+    counts: Counts,
+    line: &[u8],
+    ends: &[u16],
+    k: usize,
+) -> Role
+    requires { ⌜ Tidy (now sheet) (tableOf (now names) counts) × Looked (now line) (now ends) ⌝ }
+    ensures { λ r. ⌜ r ≡ roleOf (namesOf (now (sheet .entry)) (tableOf (now (names .entry)) counts)) (fieldOf k (fields (now (line .entry)))) ⌝ }
 {
-    Role(field::names::role(sheet, t, nth(line, from, i)))
+    Role(field::names::role(sheet, names, counts, nth(line, ends, k)))
 }
 
-// The item that the field with the number i names.
-pub fn item(sheet: &[u8], t: Table, line: &[u8], from: usize, i: usize) -> Item
-    requires { ⌜ Roomy t ⌝ }
-    ensures { λ r. ⌜ r ≡ itemOf (namesOf (now (sheet .entry)) t) (fieldOf i (partsFrom 9 (now (line .entry)) from)) ⌝ }
+// The item that the field with the number k names.
+pub fn item(
+    sheet: &[u8],
+    names: &[u32],
+    counts: Counts,
+    line: &[u8],
+    ends: &[u16],
+    k: usize,
+) -> Item
+    requires { ⌜ Tidy (now sheet) (tableOf (now names) counts) × Looked (now line) (now ends) ⌝ }
+    ensures { λ r. ⌜ r ≡ itemOf (namesOf (now (sheet .entry)) (tableOf (now (names .entry)) counts)) (fieldOf k (fields (now (line .entry)))) ⌝ }
 {
-    Item(field::names::item(sheet, t, nth(line, from, i)))
+    Item(field::names::item(sheet, names, counts, nth(line, ends, k)))
 }
 
-// The role or inverse that the field with the number i names.
-pub fn role_use(sheet: &[u8], t: Table, line: &[u8], from: usize, i: usize) -> RoleUse
-    requires { ⌜ Roomy t ⌝ }
-    ensures { λ r. ⌜ r ≡ roleUseOf (namesOf (now (sheet .entry)) t) (fieldOf i (partsFrom 9 (now (line .entry)) from)) ⌝ }
+// The role or inverse that the field with the number k names.
+pub fn role_use(
+    sheet: &[u8],
+    names: &[u32],
+    counts: Counts,
+    line: &[u8],
+    ends: &[u16],
+    k: usize,
+) -> RoleUse
+    requires { ⌜ Tidy (now sheet) (tableOf (now names) counts) × Looked (now line) (now ends) ⌝ }
+    ensures { λ r. ⌜ r ≡ roleUseOf (namesOf (now (sheet .entry)) (tableOf (now (names .entry)) counts)) (fieldOf k (fields (now (line .entry)))) ⌝ }
 {
-    let f = nth(line, from, i);
+    let f = nth(line, ends, k);
     let inverse = field::names::inverted(f);
-    let role = Role(field::names::role(sheet, t, field::names::plain(f)));
+    let role = Role(field::names::role(sheet, names, counts, field::names::plain(f)));
     RoleUse { role, inverse }
-}
-
-// The place past so many fields from a place of the line on.
-pub fn skip(line: &[u8], from: usize, count: usize) -> usize
-    ensures { λ r. ⌜ partsFrom 9 (now (line .entry)) r ≡ drop count (partsFrom 9 (now (line .entry)) from) ⌝ }
-{
-    let mut at = from;
-    let mut k = count;
-    while 0 < k {
-        at = text::line::past(line, at);
-        k -= 1;
-    }
-    at
 }

@@ -1,23 +1,17 @@
 ghost use mathlib.Core.Path.{_≡_};
-ghost use lib.ListN.{length};
-ghost use Rattle.text.specs.own.Split.{partsFrom};
+ghost use Prim.Native.Nat.{_-_, _≤_};
+ghost use lib.ListN.{length, drop};
+ghost use Rattle.text.specs.Split.{fields};
+ghost use Rattle.field.specs.own.Line.{Looked};
+ghost use Rattle.field.specs.own.Table.{Tidy, namesOf, tableOf};
 ghost use Rattle.saying.specs.own.Nodes.{RuleReady};
-ghost use Rattle.saying.specs.Read.{bare as bareRule, blank as blankSlots, chainOf, ruleOf};
-ghost use Rattle.field.specs.own.Table.{Roomy, namesOf};
+ghost use Rattle.saying.specs.Read.{bare as bareRule, chainOf, ruleOf};
+use crate::Packed;
 use crate::Parsed;
 use field::RuleWord;
-use field::Table;
 use rule::Head;
-use rule::Node;
 use rule::Rule;
-use rule::Slot;
-
-// Places without nodes.
-fn blank() -> [Slot; Rule::NODES]
-    ensures { λ r. ⌜ r ≡ blankSlots ⌝ }
-{
-    [Slot { node: Node::Top }; Rule::NODES]
-}
+use store::Counts;
 
 // A rule without expressions.
 pub fn bare(head: Head) -> Rule
@@ -26,97 +20,174 @@ pub fn bare(head: Head) -> Rule
     Rule {
         head,
         len: 0,
-        nodes: blank(),
+        nodes: crate::packs::blank(),
     }
 }
 
-// How many fields there are from a place of the line on.
-fn count_from(line: &[u8], at: usize) -> usize
-    ensures { λ r. ⌜ r ≡ length (partsFrom 9 (now (line .entry)) at) ⌝ }
+// How many fields there are from the one with the number `from` on.
+fn count_from(ends: &[u16], from: usize) -> usize
+    ensures { λ r. ⌜ r ≡ length (now (ends .entry)) - from ⌝ }
 {
-    if at <= line.len() {
-        return text::part::count(text::part::part(line, at, line.len()), 9);
+    if from < ends.len() {
+        return ends.len() - from;
     }
     0
 }
 
 // The roles of a chain.
-fn chain(sheet: &[u8], t: Table, line: &[u8], from: usize) -> Head
-    requires { ⌜ Roomy t × RuleReady RuleWord.Chain (partsFrom 9 (now line) from) ⌝ }
-    ensures { λ r. ⌜ r ≡ chainOf (namesOf (now (sheet .entry)) t) (partsFrom 9 (now (line .entry)) from) ⌝ }
+fn chain(
+    sheet: &[u8],
+    names: &[u32],
+    counts: Counts,
+    line: &[u8],
+    ends: &[u16],
+    from: usize,
+) -> Head
+    requires { ⌜ Tidy (now sheet) (tableOf (now names) counts) × Looked (now line) (now ends) × (from ≤ 2) × RuleReady RuleWord.Chain (drop from (fields (now line))) ⌝ }
+    ensures { λ r. ⌜ r ≡ chainOf (namesOf (now (sheet .entry)) (tableOf (now (names .entry)) counts)) (drop from (fields (now (line .entry)))) ⌝ }
 {
-    let k = count_from(line, from) - 1;
-    let a = crate::numbers::role_use(sheet, t, line, from, 0);
-    let b = crate::numbers::role_use(sheet, t, line, from, 1);
-    let c = crate::numbers::role_use(sheet, t, line, from, 2);
-    let d = crate::numbers::role_use(sheet, t, line, from, 3);
-    let e = crate::numbers::role_use(sheet, t, line, from, k);
+    let k = count_from(ends, from) - 1;
+    let a = crate::numbers::role_use(sheet, names, counts, line, ends, from);
+    let b = crate::numbers::role_use(sheet, names, counts, line, ends, from + 1);
+    let c = crate::numbers::role_use(sheet, names, counts, line, ends, from + 2);
+    let d = crate::numbers::role_use(sheet, names, counts, line, ends, from + 3);
+    let e = crate::numbers::role_use(sheet, names, counts, line, ends, from + k);
     Head::Chain(k, a, b, c, d, e)
 }
 
 // The rule that one expression is below another.
-fn sub(sheet: &[u8], t: Table, line: &[u8], from: usize) -> Rule
-    requires { ⌜ Roomy t × RuleReady RuleWord.Sub (partsFrom 9 (now line) from) ⌝ }
-    ensures { λ r. ⌜ r ≡ ruleOf (namesOf (now (sheet .entry)) t) RuleWord.Sub (partsFrom 9 (now (line .entry)) from) ⌝ }
+fn sub(sheet: &[u8], names: &[u32], counts: Counts, line: &[u8], ends: &[u16], from: usize) -> Rule
+    requires { ⌜ Tidy (now sheet) (tableOf (now names) counts) × Looked (now line) (now ends) × (from ≤ 2) × RuleReady RuleWord.Sub (drop from (fields (now line))) ⌝ }
+    ensures { λ r. ⌜ r ≡ ruleOf (namesOf (now (sheet .entry)) (tableOf (now (names .entry)) counts)) RuleWord.Sub (drop from (fields (now (line .entry)))) ⌝ }
 {
-    let nodes = blank();
-    let none = Parsed {
-        nodes,
-        len: 0,
-        at: from,
-    };
-    let first = crate::expressions::read_expr(sheet, t, line, none, count_from(line, from));
-    let both = crate::expressions::read_expr(sheet, t, line, first, count_from(line, first.at));
-    let all = both.nodes;
+    let mut numbers = [0; Packed::ROOM];
+    let none = Parsed { len: 0, at: from };
+    let left = count_from(ends, from);
+    let first = crate::expressions::read_expr(
+        sheet,
+        names,
+        counts,
+        line,
+        ends,
+        &mut numbers,
+        none,
+        left,
+    );
+    let rest = count_from(ends, first.at);
+    let both = crate::expressions::read_expr(
+        sheet,
+        names,
+        counts,
+        line,
+        ends,
+        &mut numbers,
+        first,
+        rest,
+    );
     Rule {
         head: Head::Sub(0, first.len),
         len: both.len,
-        nodes: all,
+        nodes: crate::packs::unpack(&numbers, both.len),
     }
 }
 
 // The rule that an expression holds of an item.
-fn in_rule(sheet: &[u8], t: Table, line: &[u8], from: usize) -> Rule
-    requires { ⌜ Roomy t × RuleReady RuleWord.In (partsFrom 9 (now line) from) ⌝ }
-    ensures { λ r. ⌜ r ≡ ruleOf (namesOf (now (sheet .entry)) t) RuleWord.In (partsFrom 9 (now (line .entry)) from) ⌝ }
+fn in_rule(
+    sheet: &[u8],
+    names: &[u32],
+    counts: Counts,
+    line: &[u8],
+    ends: &[u16],
+    from: usize,
+) -> Rule
+    requires { ⌜ Tidy (now sheet) (tableOf (now names) counts) × Looked (now line) (now ends) × (from ≤ 2) × RuleReady RuleWord.In (drop from (fields (now line))) ⌝ }
+    ensures { λ r. ⌜ r ≡ ruleOf (namesOf (now (sheet .entry)) (tableOf (now (names .entry)) counts)) RuleWord.In (drop from (fields (now (line .entry)))) ⌝ }
 {
-    let nodes = blank();
-    let none = Parsed {
-        nodes,
-        len: 0,
-        at: from,
-    };
-    let first = crate::expressions::read_expr(sheet, t, line, none, count_from(line, from));
-    let item = crate::numbers::item(sheet, t, line, first.at, 0);
-    let all = first.nodes;
+    let mut numbers = [0; Packed::ROOM];
+    let none = Parsed { len: 0, at: from };
+    let left = count_from(ends, from);
+    let first = crate::expressions::read_expr(
+        sheet,
+        names,
+        counts,
+        line,
+        ends,
+        &mut numbers,
+        none,
+        left,
+    );
+    let item = crate::numbers::item(sheet, names, counts, line, ends, first.at);
     Rule {
         head: Head::In(0, item),
         len: first.len,
-        nodes: all,
+        nodes: crate::packs::unpack(&numbers, first.len),
     }
 }
 
-// The rule that the fields of a line say, from a place on.
-pub fn rule_of(sheet: &[u8], t: Table, line: &[u8], from: usize, w: RuleWord) -> Rule
-    requires { ⌜ Roomy t × RuleReady w (partsFrom 9 (now line) from) ⌝ }
-    ensures { λ r. ⌜ r ≡ ruleOf (namesOf (now (sheet .entry)) t) w (partsFrom 9 (now (line .entry)) from) ⌝ }
+// The rule that the fields of a line say, from the one with the number `from` on.
+pub fn rule_of(
+    sheet: &[u8],
+    names: &[u32],
+    counts: Counts,
+    line: &[u8],
+    ends: &[u16],
+    from: usize,
+    w: RuleWord,
+) -> Rule
+    requires { ⌜ Tidy (now sheet) (tableOf (now names) counts) × Looked (now line) (now ends) × (from ≤ 2) × RuleReady w (drop from (fields (now line))) ⌝ }
+    ensures { λ r. ⌜ r ≡ ruleOf (namesOf (now (sheet .entry)) (tableOf (now (names .entry)) counts)) w (drop from (fields (now (line .entry)))) ⌝ }
 {
-    let a = crate::numbers::role_use(sheet, t, line, from, 0);
-    let b = crate::numbers::role_use(sheet, t, line, from, 1);
-    let i = crate::numbers::item(sheet, t, line, from, 0);
-    let j = crate::numbers::item(sheet, t, line, from, 1);
-    let k = crate::numbers::item(sheet, t, line, from, 2);
     match w {
-        RuleWord::Sub => sub(sheet, t, line, from),
-        RuleWord::RoleSub => bare(Head::RoleSub(a, b)),
-        RuleWord::Chain => bare(chain(sheet, t, line, from)),
-        RuleWord::Ref => bare(Head::Ref(a)),
-        RuleWord::Irr => bare(Head::Irr(a)),
-        RuleWord::Dis => bare(Head::Dis(a, b)),
-        RuleWord::In => in_rule(sheet, t, line, from),
-        RuleWord::Rel => bare(Head::Rel(a, j, k)),
-        RuleWord::NoRel => bare(Head::NoRel(a, j, k)),
-        RuleWord::Same => bare(Head::Same(i, j)),
-        RuleWord::Differ => bare(Head::Differ(i, j)),
+        RuleWord::Sub => sub(sheet, names, counts, line, ends, from),
+        RuleWord::RoleSub => {
+            let a = crate::numbers::role_use(sheet, names, counts, line, ends, from);
+            let b = crate::numbers::role_use(sheet, names, counts, line, ends, from + 1);
+            bare(Head::RoleSub(a, b))
+        }
+        RuleWord::Chain => bare(chain(sheet, names, counts, line, ends, from)),
+        RuleWord::Ref => bare(Head::Ref(crate::numbers::role_use(
+            sheet,
+            names,
+            counts,
+            line,
+            ends,
+            from,
+        ))),
+        RuleWord::Irr => bare(Head::Irr(crate::numbers::role_use(
+            sheet,
+            names,
+            counts,
+            line,
+            ends,
+            from,
+        ))),
+        RuleWord::Dis => {
+            let a = crate::numbers::role_use(sheet, names, counts, line, ends, from);
+            let b = crate::numbers::role_use(sheet, names, counts, line, ends, from + 1);
+            bare(Head::Dis(a, b))
+        }
+        RuleWord::In => in_rule(sheet, names, counts, line, ends, from),
+        RuleWord::Rel => {
+            let u = crate::numbers::role_use(sheet, names, counts, line, ends, from);
+            let a = crate::numbers::item(sheet, names, counts, line, ends, from + 1);
+            let b = crate::numbers::item(sheet, names, counts, line, ends, from + 2);
+            bare(Head::Rel(u, a, b))
+        }
+        RuleWord::NoRel => {
+            let u = crate::numbers::role_use(sheet, names, counts, line, ends, from);
+            let a = crate::numbers::item(sheet, names, counts, line, ends, from + 1);
+            let b = crate::numbers::item(sheet, names, counts, line, ends, from + 2);
+            bare(Head::NoRel(u, a, b))
+        }
+        RuleWord::Same => {
+            let a = crate::numbers::item(sheet, names, counts, line, ends, from);
+            let b = crate::numbers::item(sheet, names, counts, line, ends, from + 1);
+            bare(Head::Same(a, b))
+        }
+        RuleWord::Differ => {
+            let a = crate::numbers::item(sheet, names, counts, line, ends, from);
+            let b = crate::numbers::item(sheet, names, counts, line, ends, from + 1);
+            bare(Head::Differ(a, b))
+        }
     }
 }

@@ -1,10 +1,13 @@
 ghost use mathlib.Core.Path.{_≡_};
-ghost use Rattle.text.specs.own.Split.{partsFrom};
+ghost use Prim.Native.Nat.{_≤_};
+ghost use lib.ListN.{drop};
+ghost use Rattle.text.specs.Split.{fields};
 ghost use Rattle.store.specs.Cell.{turn as turned};
 ghost use Rattle.saying.specs.Read.{statementOf};
-ghost use Rattle.field.specs.own.Table.{Roomy, namesOf};
+ghost use Rattle.field.specs.own.Table.{Tidy, namesOf, tableOf};
+ghost use Rattle.field.specs.own.Line.{Looked};
 use field::StatementWord;
-use field::Table;
+use store::Counts;
 use store::Statement;
 
 // Whether one of the two, and not both, is set.
@@ -21,45 +24,60 @@ fn turn(a: bool, b: bool) -> bool
 }
 
 // The statement that one role is under another, where `~` may stand before either.
-fn role_under(sheet: &[u8], t: Table, line: &[u8], from: usize) -> Statement
-    requires { ⌜ Roomy t ⌝ }
-    ensures { λ r. ⌜ r ≡ statementOf (namesOf (now (sheet .entry)) t) StatementWord.RoleUnder (partsFrom 9 (now (line .entry)) from) ⌝ }
+fn role_under(
+    sheet: &[u8],
+    names: &[u32],
+    counts: Counts,
+    line: &[u8],
+    ends: &[u16],
+    from: usize,
+) -> Statement
+    requires { ⌜ Tidy (now sheet) (tableOf (now names) counts) × Looked (now line) (now ends) × (from ≤ 2) ⌝ }
+    ensures { λ r. ⌜ r ≡ statementOf (namesOf (now (sheet .entry)) (tableOf (now (names .entry)) counts)) StatementWord.RoleUnder (drop from (fields (now (line .entry)))) ⌝ }
 {
-    let a = crate::numbers::role_use(sheet, t, line, from, 0);
-    let b = crate::numbers::role_use(sheet, t, line, from, 1);
+    let a = crate::numbers::role_use(sheet, names, counts, line, ends, from);
+    let b = crate::numbers::role_use(sheet, names, counts, line, ends, from + 1);
     let inverse = turn(a.inverse, b.inverse);
     let first = a.role;
     let second = b.role;
     Statement::RoleUnder(first, inverse, second)
 }
 
-// The statement that the fields of a line say, from a place on.
-pub fn statement(sheet: &[u8], t: Table, line: &[u8], from: usize, w: StatementWord) -> Statement
-    requires { ⌜ Roomy t ⌝ }
-    ensures { λ r. ⌜ r ≡ statementOf (namesOf (now (sheet .entry)) t) w (partsFrom 9 (now (line .entry)) from) ⌝ }
+// The statement that the fields of a line say, from the one with the number `from` on.
+pub fn statement(
+    sheet: &[u8],
+    names: &[u32],
+    counts: Counts,
+    line: &[u8],
+    ends: &[u16],
+    from: usize,
+    w: StatementWord,
+) -> Statement
+    requires { ⌜ Tidy (now sheet) (tableOf (now names) counts) × Looked (now line) (now ends) × (from ≤ 2) ⌝ }
+    ensures { λ r. ⌜ r ≡ statementOf (namesOf (now (sheet .entry)) (tableOf (now (names .entry)) counts)) w (drop from (fields (now (line .entry)))) ⌝ }
 {
     match w {
         StatementWord::In => {
-            let a = crate::numbers::item(sheet, t, line, from, 0);
-            let b = crate::numbers::concept(sheet, t, line, from, 1);
+            let a = crate::numbers::item(sheet, names, counts, line, ends, from);
+            let b = crate::numbers::concept(sheet, names, counts, line, ends, from + 1);
             Statement::In(a, b)
         }
         StatementWord::Rel => {
-            let r = crate::numbers::role(sheet, t, line, from, 0);
-            let a = crate::numbers::item(sheet, t, line, from, 1);
-            let b = crate::numbers::item(sheet, t, line, from, 2);
+            let r = crate::numbers::role(sheet, names, counts, line, ends, from);
+            let a = crate::numbers::item(sheet, names, counts, line, ends, from + 1);
+            let b = crate::numbers::item(sheet, names, counts, line, ends, from + 2);
             Statement::Link(r, a, b)
         }
         StatementWord::Same => {
-            let a = crate::numbers::item(sheet, t, line, from, 0);
-            let b = crate::numbers::item(sheet, t, line, from, 1);
+            let a = crate::numbers::item(sheet, names, counts, line, ends, from);
+            let b = crate::numbers::item(sheet, names, counts, line, ends, from + 1);
             Statement::Same(a, b)
         }
         StatementWord::Under => {
-            let a = crate::numbers::concept(sheet, t, line, from, 0);
-            let b = crate::numbers::concept(sheet, t, line, from, 1);
+            let a = crate::numbers::concept(sheet, names, counts, line, ends, from);
+            let b = crate::numbers::concept(sheet, names, counts, line, ends, from + 1);
             Statement::Under(a, b)
         }
-        StatementWord::RoleUnder => role_under(sheet, t, line, from),
+        StatementWord::RoleUnder => role_under(sheet, names, counts, line, ends, from),
     }
 }

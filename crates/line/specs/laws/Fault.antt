@@ -1,25 +1,43 @@
 -- Laws of what is wrong with a line. Assumes nothing.
-use mathlib.Core.Path.{_≡_, refl}
-use mathlib.Core.Bool.{true, false, not}
+use mathlib.Core.Path.{_≡_, refl, sym, ap, _∙_}
+use mathlib.Core.Bool.{Bool, true, false, not, true≢false}
 use mathlib.Core.List.{List, [], _∷_}
-use Prim.Native.Nat.{ℕ, _≤_, _<_}
+use Prim.Native.Nat.{ℕ, _-_, _≤_, _<_}
 use native.Mathlib.Omega.{arith}
 use borrow.Author.Tests.{lt-ltb, le-ltb}
 use lib.Dec.{ltb}
-use lib.ListN.{length}
+use lib.ListN.{length, drop, length-drop}
 use Rattle.text.specs.Bytes.{every, same}
 use Rattle.text.specs.Name.{lineByte}
 use Rattle.text.specs.Split.{fields}
 use Rattle.rule.specs.Form.{nodeLimit}
+use Rattle.field.specs.declared.Due.the-variants as due
 use Rattle.field.specs.declared.Form.{Form}
 use Rattle.field.specs.declared.Lineup.{Lineup}
 use Rattle.line.specs.declared.Marks.{Marks}
 use Rattle.line.specs.declared.Walked.{Walked}
 use Rattle.field.specs.Due.{dues, lineupOf}
 use Rattle.line.specs.Fault.{ended, fieldsFault, formFault, full, header, headerFault, lineFault, lineLimit, none, unknown}
-use Rattle.field.specs.Names.{Names, fault, lowerFault}
+use Rattle.field.specs.Names.{Names, fault, fieldFault, lowerFault}
+use Rattle.field.specs.own.Line.{wordsOf}
+use Rattle.field.specs.own.Table.{Listed, Placed, conceptName}
+use Rattle.field.specs.laws.Names.{concept-name, old-at}
+use Rattle.field.specs.laws.Right.{concept-name-good, listed-good}
+use Rattle.field.specs.laws.Words.{body-words}
 use Rattle.line.specs.own.Walk.{WalkedBy}
 use Rattle.field.specs.Words.{Field, bodyOf, formOf, sectionOf}
+
+-- ---- a name that was found
+
+module _ {f : Field} {names : List Field} {n k : ℕ} (p : Placed f names n k) (h : k < n) where
+  -- it is as good as all that are declared
+  pub found-good : {good : Field → Bool} → Listed good names → good f ≡ true
+  found-good l = listed-good _ names f l (omega (arith, p .place, p .count))
+
+pub concept-found : (n : Names) {f : Field} {c k : ℕ} → Listed conceptName (n .concepts) → Placed f (n .concepts) c k → k < c → 0 ≡ fieldFault n due.Concept f
+concept-found n {f} {c} {k} l p h =
+    let g = concept-name-good f (found-good p h l) in
+    rw (g .0, lt-ltb k c h) at (old-at f (n .concepts) c k p) ∙ concept-name n f (g .1)
 
 -- ---- a line by itself
 
@@ -70,6 +88,10 @@ module _ (l : List ℕ) where
 
 -- ---- by its form
 
+-- the fields after the words of a known form
+pub known-body : (fs : List Field) → unknown (sectionOf (formOf fs)) ≡ false → drop (wordsOf (formOf fs)) fs ≡ bodyOf fs
+known-body fs e = body-words fs (λ q. true≢false (ap unknown (ap sectionOf (sym q)) ∙ e))
+
 module _ (n : Names) (m : Marks) (f : Form) (body : List Field) where
   pub form-unknown : unknown (sectionOf f) ≡ true → 12 ≡ formFault n m f body
   unfolding formFault
@@ -83,15 +105,19 @@ module _ (n : Names) (m : Marks) (f : Form) (body : List Field) where
   unfolding formFault
   form-fields e g = rw (e, g)
 
-  -- what the walk along the fields came to
-  module _ (l : Lineup) (k : ℕ) (fs : List Field) (w : Walked) (lined : l ≡ lineupOf f k) (count : k ≡ length body) (all : fs ≡ body) (walked : WalkedBy n (dues l) fs w) where
-    along : WalkedBy n (dues (lineupOf f (length body))) body w
-    along = rw (lined, count, all) at walked
+-- what the walk along the fields after its words came to, of so many fields
+module _ (n : Names) (m : Marks) (f : Form) (fs : List Field) (count from k : ℕ) (l : Lineup) (w : Walked) (all : count ≡ length fs) (words : from ≡ wordsOf f) (after : k ≡ count - from)
+    (lined : l ≡ lineupOf f k) (walked : WalkedBy n (dues l) (drop from fs) w) where
+  abbrev body : List Field
+  body = drop (wordsOf f) fs
 
-    pub fields-wrong : not (w .fits) ≡ true → 14 ≡ fieldsFault n m f body
-    unfolding fieldsFault
-    fields-wrong e = rw (← along .fit, e)
+  along : WalkedBy n (dues (lineupOf f (length body))) body w
+  along = let z : k ≡ length body = after ∙ rw (all, words) (sym (length-drop (wordsOf f) fs)) in rw (lined, z, words) at walked
 
-    pub fields-right : not (w .fits) ≡ false → lowerFault (w .fault) (fault (full m (sectionOf f)) 18 (fault (ltb nodeLimit (w .nodes)) 21 0)) ≡ fieldsFault n m f body
-    unfolding fieldsFault
-    fields-right e = rw (← along .fit, e, ← along .fault, ← along .nodes)
+  pub fields-wrong : not (w .fits) ≡ true → 14 ≡ fieldsFault n m f body
+  unfolding fieldsFault
+  fields-wrong e = rw (← along .fit, e)
+
+  pub fields-right : not (w .fits) ≡ false → lowerFault (w .fault) (fault (full m (sectionOf f)) 18 (fault (ltb nodeLimit (w .nodes)) 21 0)) ≡ fieldsFault n m f body
+  unfolding fieldsFault
+  fields-right e = rw (← along .fit, e, ← along .fault, ← along .nodes)

@@ -1,34 +1,26 @@
 -- Laws of fields by their number. Assumes nothing.
-use mathlib.Core.Path.{_≡_, sym}
-use mathlib.Core.List.{List}
-use Prim.Native.Nat.{ℕ, zero, suc, _-_, _≤_, _<_}
+use mathlib.Core.Path.{_≡_}
+use mathlib.Core.List.{List, []}
+use Prim.Native.Nat.{ℕ, _+_, _-_}
 use native.Mathlib.Omega.{arith}
-use lib.ListN.{drop, length}
-use lib.Seq.{drop-nil}
-use Rattle.text.specs.own.Split.{fieldFrom, partsFrom, pastField}
-use Rattle.text.specs.laws.Choice.{le-cases}
-use Rattle.text.specs.laws.Split.{field-none, fields-next, fields-none, past-none}
-use Rattle.field.specs.Words.{at}
+use lib.ListN.{drop, length, length-drop}
+use lib.Seq.{getD-drop}
+use Rattle.text.specs.Split.{fields}
+use Rattle.field.specs.Words.{Field, at}
+use Rattle.field.specs.own.Line.{Looked}
 
-module _ (line : List ℕ) (from : ℕ) where
-  pub nth-first : (k : ℕ) → k ≤ 0 → fieldFrom line from ≡ at k (partsFrom 9 line from)
-  nth-first k h =
-      let z : k ≡ 0 = omega arith in
-      rw z (le-cases from (length line) (λ g. rw (fields-next line from g)) (λ g. rw (fields-none line from g) (field-none line from g)))
+-- a field of those from the number k on
+pub field-from : (fs : List Field) (k i : ℕ) → at (k + i) fs ≡ at i (drop k fs)
+field-from fs k i = rw (getD-drop k fs i [])
 
-  pub nth-later : (k past : ℕ) → 0 < k → past ≡ pastField line from → at k (partsFrom 9 line from) ≡ at (k - 1) (partsFrom 9 line past)
-  nth-later zero past h q = absurd (omega arith)
-  nth-later (suc k) past h q =
-      let z : suc k - 1 ≡ k = omega arith in
-      rw (z, q)
-      (le-cases from (length line) (λ g. rw (fields-next line from g)) (λ g. rw (past-none line from g) (rw (fields-none line from g))))
+-- the first of them
+pub first-from : (fs : List Field) (k : ℕ) → at k fs ≡ at 0 (drop k fs)
+first-from fs k = let z : k ≡ k + 0 = omega arith in rw (getD-drop k fs 0 [], ← z)
 
-  pub skip-first : (k : ℕ) → k ≤ 0 → partsFrom 9 line from ≡ drop k (partsFrom 9 line from)
-  skip-first k h = let z : k ≡ 0 = omega arith in rw z
+-- how many they are, by the ends of the fields
+pub rest-count : {line ends : List ℕ} (from : ℕ) {r : ℕ} → Looked line ends → r ≡ length ends - from → r ≡ length (drop from (fields line))
+rest-count {line} {ends} from {r} l e = omega (arith, l .count, length-drop from (fields line))
 
-  pub skip-later : (k past : ℕ) → 0 < k → past ≡ pastField line from → drop k (partsFrom 9 line from) ≡ drop (k - 1) (partsFrom 9 line past)
-  skip-later zero past h q = absurd (omega arith)
-  skip-later (suc k) past h q =
-      let z : suc k - 1 ≡ k = omega arith in
-      rw (z, q)
-      (le-cases from (length line) (λ g. rw (fields-next line from g)) (λ g. rw (past-none line from g) (rw (fields-none line from g) (sym (drop-nil k)))))
+-- what is made of the same three parts is the same
+pub ap₃ : {A B C D : Type 0} (f : A → B → C → D) {a b : A} {c d : B} {e g : C} → a ≡ b → c ≡ d → e ≡ g → f a c e ≡ f b d g
+ap₃ f p q r = rw (p, q, r)

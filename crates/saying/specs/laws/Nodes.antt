@@ -1,53 +1,69 @@
 -- Laws of writing an expression's nodes word by word. Assumes nothing.
 use mathlib.Core.Path.{_≡_, refl, sym, _∙_, ap}
-use mathlib.Core.List.{List, [], _∷_, _++_, append-assoc, map, map-append}
-use Prim.Native.Nat.{ℕ, zero, suc, _+_, _<_}
+use mathlib.Core.List.{List, [], _∷_, _++_, append-assoc}
+use Prim.Native.Nat.{ℕ, zero, suc, _+_, _*_, _<_}
 use native.Mathlib.Nat.{add-zero}
-use native.Mathlib.Numerals.{add-one}
+use native.Mathlib.Numerals.{add-one, towards-suc}
 use native.Mathlib.Omega.{arith}
-use lib.ListN.{drop, length, length-append, length-map, set}
-use lib.Seq.{set-comm, set-set, sets}
-use Rattle.logic.specs.laws.Sets.{sets-append}
+use lib.ListN.{drop, length, length-append, set}
+use lib.Seq.{length-sets, set-comm, set-set, sets}
 use Rattle.rule.specs.declared.Node.{Node}
 use Rattle.rule.specs.declared.Node.the-variants as node
-use Rattle.rule.specs.declared.Slot.{Slot}
 use Rattle.rule.specs.Expr.{Expr}
 use Rattle.rule.specs.Expr.Expr.{both, many, name, neg, one, own, top}
 use Rattle.field.specs.declared.Operator.{Operator}
 use Rattle.field.specs.declared.Operator.the-variants as operator
-use Rattle.saying.specs.declared.Parsed.{Parsed}
 use Rattle.field.specs.Names.{Names, countOf}
-use Rattle.saying.specs.own.Nodes.{childrenOf, headFields, headNodes, joining, putting, puttingAll}
-use Rattle.saying.specs.Read.{Read, byWord, nodesAt, size, slot}
+use Rattle.saying.specs.own.Nodes.{Joined, PutAll, childrenOf, fillAnd, headFields, headNodes}
+use Rattle.saying.specs.own.Packed.{packOf, packWidth, packs}
+use Rattle.saying.specs.declared.Packed.{Packed}
+use Rattle.saying.specs.laws.Packed.{packs-both}
+use Rattle.saying.specs.Read.{Read, byWord, nodesAt, size}
 use Rattle.field.specs.Words.{at, Field}
 
 -- ---- lists
 
 -- a store before a run of stores
-set-sets : (l : List Slot) (i k : ℕ) (v : Slot) (vs : List Slot) → i < k → set (sets l k vs) i v ≡ sets (set l i v) k vs
+set-sets : (l : List ℕ) (i k v : ℕ) (vs : List ℕ) → i < k → set (sets l k vs) i v ≡ sets (set l i v) k vs
 set-sets l i k v [] h = refl
 set-sets l i k v (a ∷ vs) h = set-sets (set l k a) i (suc k) v vs (omega arith) ∙ rw (set-comm l k i a v (λ q. omega arith))
 
 -- a store among a run of stores
-pub sets-set : (l : List Slot) (i j : ℕ) (v : Slot) (vs : List Slot) → j < length vs → set (sets l i vs) (i + j) v ≡ sets l i (set vs j v)
+sets-set : (l : List ℕ) (i j v : ℕ) (vs : List ℕ) → j < length vs → set (sets l i vs) (i + j) v ≡ sets l i (set vs j v)
 sets-set l i j v [] h = absurd (omega arith)
 sets-set l i zero v (a ∷ vs) h = rw add-zero (set-sets (set l i a) i (suc i) v vs (omega arith) ∙ rw (set-set l i a v))
 sets-set l i (suc j) v (a ∷ vs) h = let z : i + suc j ≡ suc i + j = omega arith in rw z (sets-set (set l i a) (suc i) j v vs (omega arith))
 
-sets-at : (l : List Slot) (i j k : ℕ) (v : Slot) (vs : List Slot) → k ≡ i + j → j < length vs → set (sets l i vs) k v ≡ sets l i (set vs j v)
-sets-at l i j k v vs e h = rw e (sets-set l i j v vs h)
+-- ---- nodes in the room
 
--- one store after a run of stores
-sets-last : (l : List Slot) (i k : ℕ) (xs : List Node) (y : Node) → k ≡ i + length xs → set (sets l i (map slot xs)) k (slot y) ≡ sets l i (map slot (xs ++ y ∷ []))
-sets-last l i k xs y e = sym (rw (map-append slot xs (y ∷ []), sets-append l i (map slot xs) (slot y ∷ []), length-map, ← e))
+-- one node, number by number
+pub put-one : (room : List ℕ) (len : ℕ) (x : Node) (p : Packed) → p ≡ packOf x
+    → PutAll room len (x ∷ []) (set (set (set (set room (packWidth * len) (p .kind)) (packWidth * len + 1) (p .first)) (packWidth * len + 2) (p .second)) (packWidth * len + 3) (p .third)) (len + 1)
+unfolding packs
+put-one room len x p e = record { here = rw e (simp towards-suc); count = omega arith }
+
+module _ {room : List ℕ} {len : ℕ} where
+  pub put-none : {exit : List ℕ} → exit ≡ room → PutAll room len [] exit len
+  unfolding packs
+  put-none e = record { here = e; count = omega arith }
+
+  module _ {xs : List Node} {exit : List ℕ} {r : ℕ} where
+    pub put-long : PutAll room len xs exit r → length exit ≡ length room
+    put-long p = ap length (p .here) ∙ length-sets room (packWidth * len) (packs xs)
+
+    -- the same nodes, and the same room
+    pub put-as : {ys : List Node} → xs ≡ ys → PutAll room len xs exit r → PutAll room len ys exit r
+    put-as e p = rw e at p
+
+    pub put-after : {new : List ℕ} → room ≡ new → PutAll room len xs exit r → PutAll new len xs exit r
+    put-after e p = rw e at p
+
+    -- more nodes after them
+    pub put-more : {ys : List Node} {last : List ℕ} {s : ℕ} → PutAll room len xs exit r → PutAll exit r ys last s → PutAll room len (xs ++ ys) last s
+    put-more {ys} {last} {s} p q =
+        record { here = q .here ∙ rw (p .here) (packs-both room len r xs ys (p .count)); count = omega (arith, p .count, q .count, length-append xs ys) }
 
 -- ---- what a word writes
-
-pub put-all : (p : Parsed) (xs : List Node) → (puttingAll p xs .nodes ≡ sets (p .nodes) (p .len) (map slot xs)) × (puttingAll p xs .len ≡ p .len + length xs)
-put-all p [] = (refl, omega arith)
-put-all p (x ∷ xs) =
-    let r = put-all (putting p x) xs in
-    (r .0 ∙ rw add-one, omega (arith, r .1))
 
 at-one : (fs : List Field) → at 1 fs ≡ at 0 (drop 1 fs)
 at-one [] = refl
@@ -132,30 +148,44 @@ module _ (n : Names) (more : List Field → Read) (i : ℕ) (fs : List Field) wh
   front operator.Bot c = []
   front operator.None c = []
 
-  module _ (arr : List Slot) where
+  module _ (arr : List ℕ) where
+    -- the `and` of the first node, and that of the second, gets its second child
+    and-first : (a b : ℕ) (xs : List Node) → fillAnd (sets arr (packWidth * i) (packs (node.And a 0 ∷ xs))) i b ≡ sets arr (packWidth * i) (packs (node.And a b ∷ xs))
+    unfolding packs
+    and-first a b xs = sets-set arr (packWidth * i) 2 b (packs (node.And a 0 ∷ xs)) (omega arith)
+
+    and-second : (x : Node) (a b : ℕ) (xs : List Node) → fillAnd (sets arr (packWidth * i) (packs (x ∷ node.And a 0 ∷ xs))) (i + 1) b ≡ sets arr (packWidth * i) (packs (x ∷ node.And a b ∷ xs))
+    unfolding packs
+    and-second x a b xs =
+        let z : packWidth * (i + 1) + 2 ≡ packWidth * i + 6 = omega arith in
+        rw z (sets-set arr (packWidth * i) 6 b (packs (x ∷ node.And a 0 ∷ xs)) (omega arith))
+
     -- the nodes of the first child after the word's own, then the word's `and` filled in
-    pub join-nodes : (o : Operator) (c : Expr) (p : Parsed) → childrenOf o ≡ 2 → p .nodes ≡ sets arr i (map slot (headNodes n o i fs ++ nodesAt (i + length (headNodes n o i fs)) c))
-        → p .len ≡ i + length (headNodes n o i fs) + size c → (joining o p i .nodes ≡ sets arr i (map slot (front o c))) × (joining o p i .len ≡ i + length (front o c))
-    join-nodes operator.And c p e h l =
-        (rw (h, l) (sets-at arr i 0 i (slot (node.And (i + 1) (i + 1 + size c))) (map slot (node.And (i + 1) 0 ∷ nodesAt (i + 1) c)) (omega arith) (omega arith)), omega (arith, l, nodes-length (i + 1) c))
-    join-nodes operator.Or c p e h l =
-        let x : i + 1 + 1 ≡ i + 2 = omega arith in
-        let k : i + 3 + size c ≡ i + length (node.Not (i + 1) ∷ node.And (i + 2) (i + 3 + size c) ∷ node.Not (i + 3) ∷ nodesAt (i + 3) c) = omega (arith, nodes-length (i + 3) c) in
-        let a : set (p .nodes) (i + 1) (slot (node.And (i + 2) (i + 3 + size c))) ≡ sets arr i (map slot (node.Not (i + 1) ∷ node.And (i + 2) (i + 3 + size c) ∷ node.Not (i + 3) ∷ nodesAt (i + 3) c)) =
-        rw h (sets-at arr i 1 (i + 1) (slot (node.And (i + 2) (i + 3 + size c))) (map slot (node.Not (i + 1) ∷ node.And (i + 2) 0 ∷ node.Not (i + 3) ∷ nodesAt (i + 3) c)) (omega arith) (omega arith)) in (
-          rw (l, x, a) (sets-last arr i (i + 3 + size c) (node.Not (i + 1) ∷ node.And (i + 2) (i + 3 + size c) ∷ node.Not (i + 3) ∷ nodesAt (i + 3) c) (node.Not (i + 3 + size c + 1)) k),
-          omega (arith, l, k, length-append (nodesAt (i + 3) c) (node.Not (i + 3 + size c + 1) ∷ [])),
-        )
-    join-nodes operator.Not c p e h l = absurd (omega arith)
-    join-nodes operator.Some c p e h l = absurd (omega arith)
-    join-nodes operator.All c p e h l = absurd (omega arith)
-    join-nodes operator.AtLeast c p e h l = absurd (omega arith)
-    join-nodes operator.AtMost c p e h l = absurd (omega arith)
-    join-nodes operator.SelfOf c p e h l = absurd (omega arith)
-    join-nodes operator.One c p e h l = absurd (omega arith)
-    join-nodes operator.Top c p e h l = absurd (omega arith)
-    join-nodes operator.Bot c p e h l = absurd (omega arith)
-    join-nodes operator.None c p e h l = absurd (omega arith)
+    pub join-nodes : (o : Operator) (c : Expr) (nodes : List ℕ) (len : ℕ) (exit : List ℕ) (r : ℕ) → childrenOf o ≡ 2
+        → nodes ≡ sets arr (packWidth * i) (packs (headNodes n o i fs ++ nodesAt (i + length (headNodes n o i fs)) c)) → len ≡ i + length (headNodes n o i fs) + size c → Joined o nodes i len exit r
+        → PutAll arr i (front o c) exit r
+    unfolding packs
+    join-nodes operator.And c nodes len exit r e h l j =
+        record { here = j .here ∙ rw (h, l) (and-first (i + 1) (i + 1 + size c) (nodesAt (i + 1) c)); count = omega (arith, j .count, l, nodes-length (i + 1) c) }
+    join-nodes operator.Or c nodes len exit r e h l j =
+        let xs : List Node = node.Not (i + 1) ∷ node.And (i + 2) (i + 3 + size c) ∷ node.Not (i + 3) ∷ nodesAt (i + 3) c in
+        let k : i + 3 + size c ≡ i + length xs = omega (arith, nodes-length (i + 3) c) in
+        record {
+          here =
+              j .here ∙ rw (h, l) (rw (and-second (node.Not (i + 1)) (i + 2) (i + 3 + size c) (node.Not (i + 3) ∷ nodesAt (i + 3) c))
+              (packs-both arr i (i + 3 + size c) xs (node.Not (i + 3 + size c + 1) ∷ []) k));
+          count = omega (arith, j .count, l, k, length-append (nodesAt (i + 3) c) (node.Not (i + 3 + size c + 1) ∷ []));
+        }
+    join-nodes operator.Not c nodes len exit r e h l j = absurd (omega arith)
+    join-nodes operator.Some c nodes len exit r e h l j = absurd (omega arith)
+    join-nodes operator.All c nodes len exit r e h l j = absurd (omega arith)
+    join-nodes operator.AtLeast c nodes len exit r e h l j = absurd (omega arith)
+    join-nodes operator.AtMost c nodes len exit r e h l j = absurd (omega arith)
+    join-nodes operator.SelfOf c nodes len exit r e h l j = absurd (omega arith)
+    join-nodes operator.One c nodes len exit r e h l j = absurd (omega arith)
+    join-nodes operator.Top c nodes len exit r e h l j = absurd (omega arith)
+    join-nodes operator.Bot c nodes len exit r e h l j = absurd (omega arith)
+    join-nodes operator.None c nodes len exit r e h l j = absurd (omega arith)
 
   -- the whole expression: what stands before the second child, and the second child
   pub two-nodes : (o : Operator) → childrenOf o ≡ 2

@@ -1,16 +1,12 @@
 -- Laws of reading one expression into nodes, word by word. Assumes nothing.
-use mathlib.Core.Path.{_≡_, refl, sym, _∙_}
+use mathlib.Core.Path.{_≡_, refl, sym, _∙_, ap}
 use mathlib.Core.Bool.{true, true≢false}
-use mathlib.Core.List.{List, [], _∷_, _++_, map, map-append}
-use Prim.Native.Nat.{ℕ, zero, suc, _+_, _-_, _≤_, _<_}
+use mathlib.Core.List.{List, [], _∷_, _++_}
+use Prim.Native.Nat.{ℕ, zero, suc, _+_, _-_, _*_, _≤_, _<_}
 use native.Mathlib.Omega.{arith}
-use lib.ListN.{drop, length, length-append, length-map}
-use lib.Seq.{sets}
-use Rattle.text.specs.own.Split.{partsFrom}
-use Rattle.logic.specs.laws.Sets.{sets-append}
-use Rattle.rule.specs.declared.Node.{Node}
+use lib.ListN.{drop, length, length-append, length-drop}
+use lib.Seq.{drop-drop, length-sets, sets}
 use Rattle.rule.specs.declared.Node.the-variants as node
-use Rattle.rule.specs.declared.Slot.{Slot}
 use Rattle.rule.specs.Form.{nodeLimit}
 use Rattle.rule.specs.Expr.{Expr}
 use Rattle.rule.specs.Expr.Expr.{both, many, name, neg, one, own, top}
@@ -21,10 +17,12 @@ use Rattle.field.specs.declared.Operator.the-variants as operator
 use Rattle.saying.specs.declared.Parsed.{Parsed}
 use Rattle.field.specs.Due.{fits, wanted}
 use Rattle.field.specs.Names.{Names, nodesIn, nodesOf}
-use Rattle.saying.specs.own.Nodes.{ReadsOne, Ready, WordTaken, childrenOf, headFields, headNodes, joining}
-use Rattle.saying.specs.Read.{Read, byWord, nodesAt, read, size, slot}
+use Rattle.saying.specs.own.Nodes.{Joined, PutAll, ReadsOne, Ready, childrenOf, headFields, headNodes}
+use Rattle.saying.specs.Read.{Read, byWord, nodesAt, read, size}
 use Rattle.field.specs.Words.{at, Field, operatorOf}
-use Rattle.saying.specs.laws.Nodes.{drop-later, front, join-nodes, leaf-nodes, nodes-length, one-nodes, put-all, two-nodes}
+use Rattle.saying.specs.own.Packed.{packWidth, packs}
+use Rattle.saying.specs.laws.Packed.{packs-both}
+use Rattle.saying.specs.laws.Nodes.{drop-later, front, join-nodes, leaf-nodes, nodes-length, one-nodes, put-long, two-nodes}
 use Rattle.saying.specs.laws.Read.{Begun, Reader, drop-two, plain-field, read-right}
 
 -- the first word of an expression, and what it wants
@@ -119,6 +117,21 @@ head-few n operator.Top i fs = omega arith
 head-few n operator.Bot i fs = omega arith
 head-few n operator.None i fs = omega arith
 
+-- and few fields are passed with it
+pub fields-few : (o : Operator) → headFields o ≤ 3
+fields-few operator.And = omega arith
+fields-few operator.Or = omega arith
+fields-few operator.Not = omega arith
+fields-few operator.Some = omega arith
+fields-few operator.All = omega arith
+fields-few operator.AtLeast = omega arith
+fields-few operator.AtMost = omega arith
+fields-few operator.SelfOf = omega arith
+fields-few operator.One = omega arith
+fields-few operator.Top = omega arith
+fields-few operator.Bot = omega arith
+fields-few operator.None = omega arith
+
 -- a word with two children: what stands before the second has all the word's nodes and those of the first
 front-length : (n : Names) (o : Operator) (more : List Field → Read) (i : ℕ) (fs : List Field) (c : Expr) → childrenOf o ≡ 2 → length (front n more i fs o c) ≡ nodesOf o + size c
 front-length n operator.And more i fs c e = rw (nodes-length (i + 1) c) (omega arith)
@@ -134,20 +147,6 @@ front-length n operator.Top more i fs c e = absurd (omega arith)
 front-length n operator.Bot more i fs c e = absurd (omega arith)
 front-length n operator.None more i fs c e = absurd (omega arith)
 
-joining-at : (o : Operator) (p : Parsed) (i : ℕ) → joining o p i .at ≡ p .at
-joining-at operator.And p i = refl
-joining-at operator.Or p i = refl
-joining-at operator.Not p i = refl
-joining-at operator.Some p i = refl
-joining-at operator.All p i = refl
-joining-at operator.AtLeast p i = refl
-joining-at operator.AtMost p i = refl
-joining-at operator.SelfOf p i = refl
-joining-at operator.One p i = refl
-joining-at operator.Top p i = refl
-joining-at operator.Bot p i = refl
-joining-at operator.None p i = refl
-
 pub size-some : (e : Expr) → 1 ≤ size e
 unfolding size
 size-some (name c) = omega arith
@@ -158,18 +157,14 @@ size-some (many k u c) = omega arith
 size-some (own u) = omega arith
 size-some (one a) = omega arith
 
--- two runs of stores, one after the other
-pub sets-both : (arr : List Slot) (i : ℕ) (xs ys : List Node) → sets (sets arr i (map slot xs)) (i + length xs) (map slot ys) ≡ sets arr i (map slot (xs ++ ys))
-sets-both arr i xs ys = sym (rw (map-append slot xs ys, sets-append arr i (map slot xs) (map slot ys), length-map))
-
 read-step : (n : Names) (left : ℕ) (fs : List Field) → (left ≡ 0 → ⊥) → read left n fs ≡ byWord n (read (left - 1) n) (operatorOf (at 0 fs)) (at 0 fs) (drop 1 fs)
 unfolding read
 read-step n zero fs h = absurd (h refl)
 read-step n (suc left) fs h = let z : suc left - 1 ≡ left = omega arith in rw z
 
-module _ (n : Names) (line : List ℕ) (left : ℕ) (p q : Parsed) (o : Operator) (rd : Ready (partsFrom 9 line (p .at)) (p .len) left) (some : left ≡ 0 → ⊥) (is : o ≡ operatorOf (at 0 (partsFrom 9 line (p .at)))) where
+module _ (n : Names) (all : List Field) (left : ℕ) (p : Parsed) (o : Operator) (rd : Ready (drop (p .at) all) (p .len) left) (some : left ≡ 0 → ⊥) (is : o ≡ operatorOf (at 0 (drop (p .at) all))) where
   abbrev fs : List Field
-  fs = partsFrom 9 line (p .at)
+  fs = drop (p .at) all
 
   abbrev more : List Field → Read
   more = read (left - 1) n
@@ -186,104 +181,116 @@ module _ (n : Names) (line : List ℕ) (left : ℕ) (p q : Parsed) (o : Operator
   word-room = omega (arith, wants .1, rd .room)
 
   -- the word is written and passed
-  module _ (w : WordTaken n line o p q) where
-    written : (q .nodes ≡ sets (p .nodes) (p .len) (map slot (headNodes n o (p .len) fs))) × (q .len ≡ p .len + length (headNodes n o (p .len) fs))
-    written = let r = put-all p (headNodes n o (p .len) fs) in (w .nodes ∙ r .0, w .len ∙ r .1)
+  module _ (room nodes : List ℕ) (q : Parsed) (w : PutAll room (p .len) (headNodes n o (p .len) fs) nodes (q .len)) (past : q .at ≡ p .at + headFields o) where
+    passed-word : drop (q .at) all ≡ drop (headFields o) fs
+    passed-word = rw (past, drop-drop (headFields o) (p .at) all)
 
-    pub word-leaf : childrenOf o ≡ 0 → ReadsOne n line left p q
+    pub word-leaf : childrenOf o ≡ 0 → ReadsOne n all left p room nodes q
     word-leaf e =
         let l = leaf-nodes n more (p .len) fs o e in
-        record { nodes = rw by-word (written .0 ∙ rw (l .0)); len = rw by-word (omega (arith, written .1, l .1)); rest = rw by-word (w .rest ∙ l .2) }
+        record { nodes = rw by-word (w .here ∙ rw (l .0)); len = rw by-word (omega (arith, w .count, l .1)); rest = rw by-word (passed-word ∙ l .2) }
 
     -- the next expression can be read
-    pub first-ready : (childrenOf o ≡ 0 → ⊥) → Ready (partsFrom 9 line (q .at)) (q .len) (left - 1)
-    first-ready z = rw (w .rest) (go (childrenOf o) refl)
+    pub first-ready : (childrenOf o ≡ 0 → ⊥) → Ready (drop (q .at) all) (q .len) (left - 1)
+    first-ready z = rw passed-word (go (childrenOf o) refl)
       where
         go : (k : ℕ) → childrenOf o ≡ k → Ready (drop (headFields o) fs) (q .len) (left - 1)
         go zero e = absurd (z e)
         go (suc zero) e =
             let c = one-child o (rd .dues) fs e (wants .0) in
-            record { dues = rd .dues; fit = c .0; room = omega (arith, written .1, head-few n o (p .len) fs, wants .1, c .1, rd .room); enough = omega (arith, c .2, wants .2, rd .enough) }
+            record { dues = rd .dues; fit = c .0; room = omega (arith, w .count, head-few n o (p .len) fs, wants .1, c .1, rd .room); enough = omega (arith, c .2, wants .2, rd .enough) }
         go (suc (suc k)) e =
             let t = two-children o (two-at-most o k e) in
             let f : fits (due.Expr ∷ due.Expr ∷ rd .dues) (drop 1 fs) ≡ true = rw (t .0) at (wants .0) in
             let m : nodesIn (wanted o ++ rd .dues) (drop 1 fs) ≡ nodesIn (due.Expr ∷ due.Expr ∷ rd .dues) (drop 1 fs) = rw (t .0) in
             rw (t .1)
-            (record { dues = due.Expr ∷ rd .dues; fit = f; room = omega (arith, written .1, head-few n o (p .len) fs, wants .1, m, rd .room); enough = omega (arith, wants .2, rd .enough) })
+            (record { dues = due.Expr ∷ rd .dues; fit = f; room = omega (arith, w .count, head-few n o (p .len) fs, wants .1, m, rd .room); enough = omega (arith, wants .2, rd .enough) })
 
-    -- the only child is read
-    pub word-one : (r : Parsed) → childrenOf o ≡ 1 → ReadsOne n line (left - 1) q r → ReadsOne n line left p r
-    word-one r e c =
-        let l = one-nodes n more (p .len) fs o e in
-        record {
-          nodes = rw by-word (c .nodes ∙ rw (written .0, written .1, w .rest, sets-both (p .nodes) (p .len) (headNodes n o (p .len) fs) _, ← l .0));
-          len = rw by-word (c .len ∙ rw (written .1, w .rest) (omega (arith, l .1)));
-          rest = rw by-word (c .rest ∙ rw (w .rest, ← l .2));
-        }
+    -- the first child is read
+    module _ (exit : List ℕ) (r : Parsed) (c : ReadsOne n all (left - 1) q nodes exit r) where
+      -- it is the only one
+      pub word-one : childrenOf o ≡ 1 → ReadsOne n all left p room exit r
+      word-one e =
+          let l = one-nodes n more (p .len) fs o e in
+          record {
+            nodes = rw by-word (c .nodes ∙ rw (w .here, w .count, passed-word, packs-both room (p .len) _ (headNodes n o (p .len) fs) _ refl, ← l .0));
+            len = rw by-word (c .len ∙ rw (w .count, passed-word) (omega (arith, l .1)));
+            rest = rw by-word (c .rest ∙ rw (passed-word, ← l .2));
+          }
 
-    -- the first of two children is read
-    module _ (r : Parsed) (e : childrenOf o ≡ 2) (c : ReadsOne n line (left - 1) q r) where
-      abbrev first : Read
-      first = more (drop 1 fs)
+      -- it is the first of two
+      module _ (e : childrenOf o ≡ 2) where
+        abbrev first : Read
+        first = more (drop 1 fs)
 
-      two-fit : fits (due.Expr ∷ due.Expr ∷ rd .dues) (drop 1 fs) ≡ true
-      two-fit = rw (two-children o e .0) at (wants .0)
+        two-fit : fits (due.Expr ∷ due.Expr ∷ rd .dues) (drop 1 fs) ≡ true
+        two-fit = rw (two-children o e .0) at (wants .0)
 
-      two-count : nodesIn (wanted o ++ rd .dues) (drop 1 fs) ≡ nodesIn (due.Expr ∷ due.Expr ∷ rd .dues) (drop 1 fs)
-      two-count = rw (two-children o e .0)
+        two-count : nodesIn (wanted o ++ rd .dues) (drop 1 fs) ≡ nodesIn (due.Expr ∷ due.Expr ∷ rd .dues) (drop 1 fs)
+        two-count = rw (two-children o e .0)
 
-      passed : partsFrom 9 line (q .at) ≡ drop 1 fs
-      passed = w .rest ∙ rw (two-children o e .1)
+        passed : drop (q .at) all ≡ drop 1 fs
+        passed = passed-word ∙ rw (two-children o e .1)
 
-      begins : Begun (due.Expr ∷ rd .dues) (drop 1 fs) (first .rest) (size (first .expr))
-      unfolding Reader
-      begins = read-right n (left - 1) (due.Expr ∷ rd .dues) (drop 1 fs) (omega (arith, wants .2, rd .enough)) two-fit
+        begins : Begun (due.Expr ∷ rd .dues) (drop 1 fs) (first .rest) (size (first .expr))
+        unfolding Reader
+        begins = read-right n (left - 1) (due.Expr ∷ rd .dues) (drop 1 fs) (omega (arith, wants .2, rd .enough)) two-fit
 
-      first-nodes : r .nodes ≡ sets (p .nodes) (p .len) (map slot (headNodes n o (p .len) fs ++ nodesAt (p .len + length (headNodes n o (p .len) fs)) (first .expr)))
-      first-nodes = c .nodes ∙ rw (written .0, written .1, passed, sets-both (p .nodes) (p .len) (headNodes n o (p .len) fs) _)
+        first-nodes : exit ≡ sets room (packWidth * p .len) (packs (headNodes n o (p .len) fs ++ nodesAt (p .len + length (headNodes n o (p .len) fs)) (first .expr)))
+        first-nodes = c .nodes ∙ rw (w .here, w .count, passed, packs-both room (p .len) _ (headNodes n o (p .len) fs) _ refl)
 
-      first-len : r .len ≡ p .len + length (headNodes n o (p .len) fs) + size (first .expr)
-      first-len = c .len ∙ rw (written .1, passed)
+        first-len : r .len ≡ p .len + length (headNodes n o (p .len) fs) + size (first .expr)
+        first-len = c .len ∙ rw (w .count, passed)
 
-      first-rest : partsFrom 9 line (r .at) ≡ first .rest
-      first-rest = c .rest ∙ rw passed
+        first-rest : drop (r .at) all ≡ first .rest
+        first-rest = c .rest ∙ rw passed
 
-      spare : p .len + nodesOf o + size (first .expr) + 1 ≤ nodeLimit
-      spare = omega (arith, wants .1, two-count, begins .nodes, expr-some (rd .dues) (first .rest) (begins .fit), rd .room)
+        spare : p .len + nodesOf o + size (first .expr) + 1 ≤ nodeLimit
+        spare = omega (arith, wants .1, two-count, begins .nodes, expr-some (rd .dues) (first .rest) (begins .fit), rd .room)
 
-      -- what joining asks
-      pub join-ready : (p .len + 1 < nodeLimit) × (r .len < nodeLimit)
-      join-ready = (omega (arith, spare, nodes-some o, size-some (first .expr)), omega (arith, spare, first-len, head-few n o (p .len) fs))
+        -- what joining asks
+        pub join-ready : (p .len + 1 < nodeLimit) × (r .len < nodeLimit)
+        join-ready = (omega (arith, spare, nodes-some o, size-some (first .expr)), omega (arith, spare, first-len, head-few n o (p .len) fs))
 
-      module _ (s : Parsed) (j : s ≡ joining o r (p .len)) where
-        joined : (s .nodes ≡ sets (p .nodes) (p .len) (map slot (front n more (p .len) fs o (first .expr)))) × (s .len ≡ p .len + length (front n more (p .len) fs o (first .expr)))
-        joined = rw j (join-nodes n more (p .len) fs (p .nodes) o (first .expr) r e first-nodes first-len)
+        module _ (both : List ℕ) (s : Parsed) (j : Joined o exit (p .len) (r .len) both (s .len)) (same : s .at ≡ r .at) where
+          joined : PutAll room (p .len) (front n more (p .len) fs o (first .expr)) both (s .len)
+          joined = join-nodes n more (p .len) fs room o (first .expr) exit (r .len) both (s .len) e first-nodes first-len j
 
-        second-rest : partsFrom 9 line (s .at) ≡ first .rest
-        second-rest = rw (j, joining-at o r (p .len)) first-rest
+          pub joined-long : length both ≡ length room
+          joined-long = put-long joined
 
-        pub second-ready : Ready (partsFrom 9 line (s .at)) (s .len) (left - 1)
-        second-ready =
-            rw second-rest
-            (record {
-              dues = rd .dues;
-              fit = begins .fit;
-              room = omega (arith, joined .1, front-length n o more (p .len) fs (first .expr) e, wants .1, two-count, begins .nodes, rd .room);
-              enough = omega (arith, begins .less, wants .2, rd .enough);
-            })
+          second-rest : drop (s .at) all ≡ first .rest
+          second-rest = rw same first-rest
 
-        pub word-two : (v : Parsed) → ReadsOne n line (left - 1) s v → ReadsOne n line left p v
-        word-two v d =
-            let l = two-nodes n more (p .len) fs o e in
-            record {
-              nodes = rw by-word (d .nodes ∙ rw (joined .0, joined .1, second-rest, sets-both (p .nodes) (p .len) (front n more (p .len) fs o (first .expr)) _, ← l .0));
-              len = rw by-word (d .len ∙ rw (joined .1, second-rest) (omega (arith, l .1)));
-              rest = rw by-word (d .rest ∙ rw (second-rest, ← l .2));
-            }
+          pub second-ready : Ready (drop (s .at) all) (s .len) (left - 1)
+          second-ready =
+              rw second-rest
+              (record {
+                dues = rd .dues;
+                fit = begins .fit;
+                room = omega (arith, joined .count, front-length n o more (p .len) fs (first .expr) e, wants .1, two-count, begins .nodes, rd .room);
+                enough = omega (arith, begins .less, wants .2, rd .enough);
+              })
+
+          pub word-two : (last : List ℕ) (v : Parsed) → ReadsOne n all (left - 1) s both last v → ReadsOne n all left p room last v
+          word-two last v d =
+              let l = two-nodes n more (p .len) fs o e in
+              record {
+                nodes = rw by-word (d .nodes ∙ rw (joined .here, joined .count, second-rest, packs-both room (p .len) _ (front n more (p .len) fs o (first .expr)) _ refl, ← l .0));
+                len = rw by-word (d .len ∙ rw (joined .count, second-rest) (omega (arith, l .1)));
+                rest = rw by-word (d .rest ∙ rw (second-rest, ← l .2));
+              }
 
 -- there is a word to be read
 pub ready-some : (fs : List Field) (len left : ℕ) → Ready fs len left → left ≡ 0 → ⊥
 ready-some fs len left rd z = omega (arith, first-word (rd .dues) fs (rd .fit) .2, rd .enough)
+
+pub ready-inside : (fs : List Field) (k : ℕ) {len left : ℕ} → Ready (drop k fs) len left → k < length fs
+ready-inside fs k rd = omega (arith, first-word (rd .dues) (drop k fs) (rd .fit) .2, length-drop k fs)
+
+-- reading leaves the room as long as it was
+pub reads-long : {n : Names} {fs : List Field} {left : ℕ} {p : Parsed} {room exit : List ℕ} {r : Parsed} → ReadsOne n fs left p room exit r → length exit ≡ length room
+reads-long {n} {fs} {left} {p} {room} d = ap length (d .nodes) ∙ length-sets room (packWidth * p .len) (packs (nodesAt (p .len) (read left n (drop (p .at) fs) .expr)))
 
 -- neither none nor one: two
 pub two-else : (o : Operator) → (childrenOf o ≡ 0 → ⊥) → (childrenOf o ≡ 1 → ⊥) → childrenOf o ≡ 2

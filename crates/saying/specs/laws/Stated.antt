@@ -1,10 +1,12 @@
 -- The numbers of a statement, read from fields with nothing wrong, are below their counts. Assumes nothing.
 use mathlib.Core.Path.{_≡_, refl}
-use mathlib.Core.Bool.{false}
+use mathlib.Core.Bool.{Bool, false}
 use mathlib.Core.List.{List, [], _∷_}
 use Prim.Native.Nat.{ℕ, suc}
 use lib.ListN.{length, drop}
-use Rattle.store.specs.Cell.{Within, cellOf}
+use Rattle.store.specs.Cell.{Within, cellOf, turn}
+use Rattle.store.specs.declared.Statement.the-variants as stated
+use Rattle.rule.specs.declared.RoleUse.{RoleUse}
 use Rattle.field.specs.declared.Due.{Due}
 use Rattle.field.specs.declared.Due.the-variants as due
 use Rattle.field.specs.declared.Form.the-variants as form
@@ -15,6 +17,11 @@ use Rattle.field.specs.Names.{Names, countsOf, fieldFault}
 use Rattle.field.specs.Words.{at, Field}
 use Rattle.saying.specs.Read.{statementOf}
 use Rattle.field.specs.laws.Right.{Right, concept-declared, item-declared, right-first, role-declared, role-use-declared}
+
+-- a role under another
+pub role-under-is : {a b c d : RoleUse} {t : Bool} → t ≡ turn (a .inverse) (b .inverse) → a ≡ c → b ≡ d
+    → stated.RoleUnder (a .role) t (b .role) ≡ stated.RoleUnder (c .role) (turn (c .inverse) (d .inverse)) (d .role)
+role-under-is e p q = rw (e, p, q)
 
 module _ (n : Names) where
   at-later : (i : ℕ) (fs : List Field) → at i (drop 1 fs) ≡ at (suc i) fs

@@ -1,11 +1,10 @@
 -- The reader's own records of an expression's nodes: what a word writes at once.
 use mathlib.Core.Path.{_≡_}
 use mathlib.Core.Bool.{true}
-use mathlib.Core.List.{List, [], _∷_, map}
-use Prim.Native.Nat.{ℕ, _+_, _≤_}
+use mathlib.Core.List.{List, [], _∷_}
+use Prim.Native.Nat.{ℕ, _+_, _*_, _≤_}
 use lib.ListN.{drop, length, set}
 use lib.Seq.{sets}
-use Rattle.text.specs.own.Split.{partsFrom}
 use Rattle.rule.specs.Form.{nodeLimit}
 use Rattle.field.specs.declared.Due.{Due}
 use Rattle.field.specs.declared.Due.the-variants as due
@@ -18,11 +17,13 @@ use Rattle.field.specs.declared.Operator.the-variants as operator
 use Rattle.saying.specs.declared.Parsed.{Parsed}
 use Rattle.field.specs.Names.{Names, countOf, nodesIn}
 use Rattle.field.specs.Words.{at, Field}
-use Rattle.saying.specs.Read.{conceptOf, itemOf, nodesAt, read, roleUseOf, size, slot}
+use Rattle.saying.specs.Read.{conceptOf, itemOf, nodesAt, read, roleUseOf, size}
+use Rattle.saying.specs.own.Packed.{packWidth, packs}
 
--- one node more
-abbrev pub putting : Parsed → Node → Parsed
-putting p x = record { nodes = set (p .nodes) (p .len) (slot x); len = p .len + 1; at = p .at }
+-- the nodes xs stand as numbers in the room after so many others, and r is how many there are then
+pub record PutAll (room : List ℕ) (len : ℕ) (xs : List Node) (exit : List ℕ) (r : ℕ) : Type 0 where
+  pub here : exit ≡ sets room (packWidth * len) (packs xs)
+  pub count : r ≡ len + length xs
 
 -- the nodes that the word o, the first of the fields, stands for, the first at the place i; the second child of an `and` is filled in later
 abbrev pub headNodes : Names → Operator → ℕ → List Field → List Node
@@ -54,11 +55,6 @@ headFields operator.Top = 1
 headFields operator.Bot = 1
 headFields operator.None = 1
 
--- all of them written
-abbrev pub puttingAll : Parsed → List Node → Parsed
-puttingAll p [] = p
-puttingAll p (x ∷ xs) = puttingAll (putting p x) xs
-
 -- how many expressions it wants after that
 abbrev pub childrenOf : Operator → ℕ
 childrenOf operator.And = 2
@@ -74,29 +70,30 @@ childrenOf operator.Top = 0
 childrenOf operator.Bot = 0
 childrenOf operator.None = 0
 
--- the `and` of an `and`, and that of an `or`, which is one further, gets its second child: the next node
-abbrev pub fillAnd : Parsed → ℕ → Parsed
-fillAnd p i = record { nodes = set (p .nodes) i (slot (node.And (i + 1) (p .len))); len = p .len; at = p .at }
+-- the `and` at the place i gets its second child: the next node
+abbrev pub fillAnd : List ℕ → ℕ → ℕ → List ℕ
+fillAnd nodes i len = set nodes (packWidth * i + 2) len
 
-abbrev pub joining : Operator → Parsed → ℕ → Parsed
-joining operator.And p i = fillAnd p i
-joining operator.Or p i = putting (fillAnd p (i + 1)) (node.Not (p .len + 1))
-joining operator.Not p i = p
-joining operator.Some p i = p
-joining operator.All p i = p
-joining operator.AtLeast p i = p
-joining operator.AtMost p i = p
-joining operator.SelfOf p i = p
-joining operator.One p i = p
-joining operator.Top p i = p
-joining operator.Bot p i = p
-joining operator.None p i = p
+-- what stands before the second child of the word o, whose nodes begin at i: its `and`, of an `or` the one further, is filled in, and an `or` has one node more
+abbrev pub Joined : Operator → List ℕ → ℕ → ℕ → List ℕ → ℕ → Type 0
+Joined operator.And nodes i len exit r = PutAll (fillAnd nodes i len) len [] exit r
+Joined operator.Or nodes i len exit r = PutAll (fillAnd nodes (i + 1) len) len (node.Not (len + 1) ∷ []) exit r
+Joined operator.Not nodes i len exit r = PutAll nodes len [] exit r
+Joined operator.Some nodes i len exit r = PutAll nodes len [] exit r
+Joined operator.All nodes i len exit r = PutAll nodes len [] exit r
+Joined operator.AtLeast nodes i len exit r = PutAll nodes len [] exit r
+Joined operator.AtMost nodes i len exit r = PutAll nodes len [] exit r
+Joined operator.SelfOf nodes i len exit r = PutAll nodes len [] exit r
+Joined operator.One nodes i len exit r = PutAll nodes len [] exit r
+Joined operator.Top nodes i len exit r = PutAll nodes len [] exit r
+Joined operator.Bot nodes i len exit r = PutAll nodes len [] exit r
+Joined operator.None nodes i len exit r = PutAll nodes len [] exit r
 
--- r is p with the expression that the fields fs begin with, read at most `left` words deep
-pub record ReadsOne (n : Names) (line : List ℕ) (left : ℕ) (p r : Parsed) : Type 0 where
-  pub nodes : r .nodes ≡ sets (p .nodes) (p .len) (map slot (nodesAt (p .len) (read left n (partsFrom 9 line (p .at)) .expr)))
-  pub len : r .len ≡ p .len + size (read left n (partsFrom 9 line (p .at)) .expr)
-  pub rest : partsFrom 9 line (r .at) ≡ read left n (partsFrom 9 line (p .at)) .rest
+-- the expression that the fields fs go on with at p is read, at most `left` words deep: its nodes stand in the room after the others, and r is past it
+pub record ReadsOne (n : Names) (fs : List Field) (left : ℕ) (p : Parsed) (room exit : List ℕ) (r : Parsed) : Type 0 where
+  pub nodes : exit ≡ sets room (packWidth * p .len) (packs (nodesAt (p .len) (read left n (drop (p .at) fs) .expr)))
+  pub len : r .len ≡ p .len + size (read left n (drop (p .at) fs) .expr)
+  pub rest : drop (r .at) fs ≡ read left n (drop (p .at) fs) .rest
 
 -- the fields fs begin with an expression, for whose nodes there is room after so many, and which is not deeper than `left` words
 pub record Ready (fs : List Field) (len left : ℕ) : Type 0 where
@@ -104,12 +101,6 @@ pub record Ready (fs : List Field) (len left : ℕ) : Type 0 where
   pub fit : fits (due.Expr ∷ dues) fs ≡ true
   pub room : len + nodesIn (due.Expr ∷ dues) fs ≤ nodeLimit
   pub enough : length fs ≤ left
-
--- the word o and what it takes with it are written and passed
-pub record WordTaken (n : Names) (line : List ℕ) (o : Operator) (p r : Parsed) : Type 0 where
-  pub nodes : r .nodes ≡ puttingAll p (headNodes n o (p .len) (partsFrom 9 line (p .at))) .nodes
-  pub len : r .len ≡ puttingAll p (headNodes n o (p .len) (partsFrom 9 line (p .at))) .len
-  pub rest : partsFrom 9 line (r .at) ≡ drop (headFields o) (partsFrom 9 line (p .at))
 
 -- the fields after a rule word are those that are due, with no more nodes than a rule may have
 pub record RuleReady (w : RuleWord) (fs : List Field) : Type 0 where

@@ -1,6 +1,6 @@
 -- `line::faults::new_item` meets its contract. Assumes nothing.
 use mathlib.Core.Path.{sym, ap, _∙_}
-use Rattle.field.specs.own.Table.{namesOf}
+use Rattle.field.specs.own.Table.{namesOf, tableOf}
 use mathlib.Core.Bool.{not}
 use Rattle.field.specs.laws.Names.{new-item-none, new-item-date, new-item-name, new-at}
 use borrow.Author.Needs.{needs}
@@ -12,16 +12,16 @@ is-name-requires c κs = search needs
 
 returns : tie.Need-returns
 returns c =
-    let x = c .before .before .before .before .args in
-    new-item-none (namesOf (x .sheet .now) (x .t)) (x .f .now) (ap not (sym (c .before .is-name .ensures)) ∙ c .if1 .taken)
+    let x = c .before .before .before .before .before .args in
+    new-item-none (namesOf (x .sheet .now) (tableOf (x .names .now) (x .counts))) (x .f .now) (ap not (sym (c .before .is-name .ensures)) ∙ c .if1 .taken)
 
 date-shaped-requires : tie.Need-date-shaped-requires
 date-shaped-requires c κs = search needs
 
 returns-2 : tie.Need-returns-2
 returns-2 c =
-    let x = c .before .before .before .before .before .before .args in
-    new-item-date (namesOf (x .sheet .now) (x .t)) (x .f .now) (ap not (sym (c .before .before .before .is-name .ensures)) ∙ c .before .before .if1 .left) (sym (c .before .date-shaped .ensures) ∙ c .if2 .taken)
+    let x = c .before .before .before .before .before .before .before .args in
+    new-item-date (namesOf (x .sheet .now) (tableOf (x .names .now) (x .counts))) (x .f .now) (ap not (sym (c .before .before .before .is-name .ensures)) ∙ c .before .before .if1 .left) (sym (c .before .date-shaped .ensures) ∙ c .if2 .taken)
 
 item-requires : tie.Need-item-requires
 item-requires c κs = search needs
@@ -34,7 +34,7 @@ returns-3 c =
     let x = c .before .before .before .before .before .before .before .before .before .args in
     c .new-name .ensures
     ∙ new-at _ _ _ _ (c .before .item .ensures) _
-    ∙ new-item-name (namesOf (x .sheet .now) (x .t)) (x .f .now) (ap not (sym (c .before .before .before .before .before .before .is-name .ensures)) ∙ c .before .before .before .before .before .if1 .left) (sym (c .before .before .before .before .date-shaped .ensures) ∙ c .before .before .before .if2 .left)
+    ∙ new-item-name (namesOf (x .sheet .now) (tableOf (x .names .now) (x .counts))) (x .f .now) (ap not (sym (c .before .before .before .before .before .is-name .ensures)) ∙ c .before .before .before .before .if1 .left) (sym (c .before .before .before .date-shaped .ensures) ∙ c .before .before .if2 .left)
 
 pub new-item-spec : {M : Type 1} → statement M
 new-item-spec =

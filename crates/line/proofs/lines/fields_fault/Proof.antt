@@ -6,20 +6,20 @@ use borrow.Author.Needs.{needs}
 use Rattle.line.proofs.lines.fields_fault.Statement.{statement}
 use Rattle.line.proofs.lines.fields_fault.Tie as tie
 
-body-count-requires : tie.Need-body-count-requires
-body-count-requires c κs = search needs
+words-requires : tie.Need-words-requires
+words-requires c κs = search needs
+
+after-requires : tie.Need-after-requires
+after-requires c κs = search needs
 
 lineup-requires : tie.Need-lineup-requires
 lineup-requires c κs = search needs
 
-body-requires : tie.Need-body-requires
-body-requires c κs = search needs
-
 walk-requires : tie.Need-walk-requires
-walk-requires c κs = search needs
+walk-requires c κs = c .before .before .before .before .before .before .before .pre
 
 returns : tie.Need-returns
-returns c = fields-wrong _ _ _ _ _ _ _ _ (c .before .before .before .before .lineup .ensures) (c .before .before .before .before .before .body-count .ensures) (c .before .before .before .body .ensures) (c .before .before .walk .ensures) (c .if1 .taken)
+returns c = fields-wrong _ _ _ _ _ _ _ _ _ (c .before .before .before .before .before .before .before .before .before .before .pre .1 .count) (c .before .before .before .before .before .words .ensures) (c .before .before .before .before .after .ensures) (c .before .before .before .lineup .ensures) (c .before .before .walk .ensures) (c .if1 .taken)
 
 section-requires : tie.Need-section-requires
 section-requires c κs = search needs
@@ -34,15 +34,18 @@ lower-requires : tie.Need-lower-requires
 lower-requires c κs = search needs
 
 returns-2 : tie.Need-returns-2
-returns-2 c = c .lower .ensures ∙ rw (c .before .size-fault .ensures, c .before .before .full .ensures, c .before .before .before .section .ensures) (fields-right _ _ _ _ _ _ _ _ (c .before .before .before .before .before .before .before .before .lineup .ensures) (c .before .before .before .before .before .before .before .before .before .body-count .ensures) (c .before .before .before .before .before .before .before .body .ensures) (c .before .before .before .before .before .before .walk .ensures) (c .before .before .before .before .if1 .left))
+returns-2 c =
+    c .lower .ensures
+    ∙ rw (c .before .size-fault .ensures, c .before .before .full .ensures, c .before .before .before .section .ensures)
+    (fields-right _ _ _ _ _ _ _ _ _ (c .before .before .before .before .before .before .before .before .before .before .before .before .before .before .pre .1 .count) (c .before .before .before .before .before .before .before .before .before .words .ensures) (c .before .before .before .before .before .before .before .before .after .ensures) (c .before .before .before .before .before .before .before .lineup .ensures) (c .before .before .before .before .before .before .walk .ensures) (c .before .before .before .before .if1 .left))
 
 pub fields-fault-spec : {M : Type 1} → statement M
 fields-fault-spec =
     tie.close
     (tie.spec
-    body-count-requires
+    words-requires
+    after-requires
     lineup-requires
-    body-requires
     walk-requires
     returns
     section-requires

@@ -1,50 +1,24 @@
 -- `saying::numbers::nth` meets its contract. Assumes nothing.
+use mathlib.Core.Path.{sym}
+use mathlib.Core.List.{[]}
+use lib.ListN.{List·getD-eq-default}
+use Rattle.text.specs.Split.{fields}
 use native.Mathlib.Omega.{arith}
 use borrow.Author.Needs.{needs}
-use mathlib.Core.Path.{_≡_, refl, sym, _∙_}
-use Rattle.text.specs.own.Split.{partsFrom}
-use Rattle.field.specs.Words.{at as fieldOf}
-use Rattle.saying.specs.laws.Fields.{nth-first, nth-later}
 use Rattle.saying.proofs.numbers.nth.Statement.{statement}
 use Rattle.saying.proofs.numbers.nth.Tie as tie
 
-abbrev Inv-loop : tie.InvT-loop
-Inv-loop line from i at₀ k₀ at k = fieldOf i (partsFrom 9 line from) ≡ fieldOf k (partsFrom 9 line at)
-
-abbrev μ-loop : tie.MeasureT-loop
-μ-loop line from i at₀ k₀ at k = k
-
-loop-holds : tie.Need-loop-holds Inv-loop μ-loop
-loop-holds c = refl
-
-past-requires : tie.Need-past-requires Inv-loop μ-loop
-past-requires c κs = search needs
-
-sub-k : tie.Need-sub-k Inv-loop μ-loop
-sub-k c = search needs
-
-loop-less : tie.Need-loop-less Inv-loop μ-loop
-loop-less c = search needs
-
-loop-again : tie.Need-loop-again Inv-loop μ-loop
-loop-again c = let v = c .before .before .loop in v .inv ∙ nth-later (c .before .before .before .before .args .line .now) (v .at) (v .k) _ (c .before .loop-test .taken) (c .past .ensures)
-
-field-requires : tie.Need-field-requires Inv-loop μ-loop
+field-requires : tie.Need-field-requires
 field-requires c κs = search needs
 
-returns : tie.Need-returns Inv-loop μ-loop
-returns c = let v = c .before .before .loop in c .field .ensures ∙ nth-first (c .before .before .before .before .args .line .now) (v .at) (v .k) (omega arith) ∙ sym (v .inv)
+slice-aggregate-result : tie.Need-slice-aggregate-result
+slice-aggregate-result c = search needs
+
+returns : tie.Need-returns
+returns c = search needs
+
+returns-2 : tie.Need-returns-2
+returns-2 c = sym (List·getD-eq-default (fields (c .before .before .before .before .args .line .now)) [] (omega (arith, c .before .before .before .before .pre .count)))
 
 pub nth-spec : {M : Type 1} → statement M
-nth-spec =
-    tie.close
-    (tie.spec
-    Inv-loop
-    μ-loop
-    loop-holds
-    past-requires
-    sub-k
-    loop-less
-    loop-again
-    field-requires
-    returns)
+nth-spec = tie.close (tie.spec field-requires slice-aggregate-result returns returns-2)
