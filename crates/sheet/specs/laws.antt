@@ -1,6 +1,7 @@
 -- What is proved of sheets.
 pub mod Stands
 pub mod Taken
+pub mod Quick
 pub mod Lines
 pub mod Sheets
 pub mod Settled

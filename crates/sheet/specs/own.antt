@@ -1,3 +1,4 @@
 -- The code's own records, which no promise mentions.
 pub mod Stands
+pub mod Quick
 pub mod Pass

@@ -1,5 +1,6 @@
 ghost use mathlib.Core.Path.{_≡_};
-ghost use lib.ListN.{length};
+ghost use mathlib.Core.Bool.{false};
+ghost use lib.ListN.{replicate};
 ghost use Rattle.store.specs.Cell.{With, Within, cellOf};
 ghost use Rattle.store.specs.Layout.{ClosedStore, Fits, Holds, size, width};
 ghost use Rattle.store.specs.Keeps.{Keeps};
@@ -19,15 +20,15 @@ fn begun(m: Marks) -> bool
     0 < m.rules
 }
 
-// Makes the store fresh, unless a statement or a rule was accepted before.
+// Makes the store fresh, unless a statement or a rule was accepted before; until then its words are all 0.
 pub fn begin(words: &mut [u64], counts: Counts, m: Marks)
-    requires { ⌜ (length (now words) ≡ size width) × Fits width counts ⌝ }
+    requires { ⌜ (begunBy m ≡ false → now words ≡ replicate (size width) 0) × Fits width counts ⌝ }
     ensures { λ _. ⌜ Begins (begunBy m) counts (now (words .entry)) (now (words .exit)) ⌝ }
 {
     if begun(m) {
         return;
     }
-    closure::fresh(words, counts);
+    closure::entry::begin(words, counts);
 }
 
 // Adds a statement to a closed store.
@@ -35,5 +36,5 @@ pub fn state(words: &mut [u64], counts: Counts, s: Statement)
     requires { ⌜ ClosedStore width counts (now words) × Within counts (cellOf s) ⌝ }
     ensures { λ _. ⌜ Keeps width counts (With (Holds width counts (now (words .entry))) (cellOf s)) (now (words .exit)) ⌝ }
 {
-    closure::entry::apply(words, store::size::layout(), counts, s);
+    closure::entry::apply(words, counts, s);
 }

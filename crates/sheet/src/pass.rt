@@ -3,12 +3,14 @@ ghost use mathlib.Core.Path.{_≡_};
 ghost use mathlib.Core.Bool.{false};
 ghost use Rattle.text.specs.Split.{fields};
 ghost use Rattle.sheet.specs.own.Pass.{Accepts, LineRule, Next, Opened, Paused, RuleIfReady};
-ghost use Rattle.field.specs.own.Table.{Roomy, namesOf};
+ghost use Rattle.field.specs.own.Table.{Tidy, namesOf, tableOf};
 ghost use Rattle.field.specs.Words.{bodyOf, formOf};
+ghost use Rattle.field.specs.own.Line.{Looked};
 use crate::RuleLine;
 use field::Form;
-use field::Table;
+use line::Sheet;
 use rule::Head;
+use store::Counts;
 use store::Item;
 
 // No rule.
@@ -25,18 +27,26 @@ fn no_rule(line: usize, past: usize) -> RuleLine
 }
 
 // The rule of a line, if it is the line of one; with the line's number and the place past it.
-fn rule_in(sheet: &[u8], t: Table, line: &[u8], number: usize, past: usize) -> RuleLine
-    requires { ⌜ Roomy t × RuleIfReady (now line) ⌝ }
-    ensures { λ r. ⌜ LineRule (namesOf (now (sheet .entry)) t) (formOf (fields (now (line .entry)))) (bodyOf (fields (now (line .entry)))) number past r ⌝ }
+fn rule_in(
+    sheet: &[u8],
+    names: &[u32],
+    counts: Counts,
+    line: &[u8],
+    ends: &[u16],
+    number: usize,
+    past: usize,
+) -> RuleLine
+    requires { ⌜ Tidy (now sheet) (tableOf (now names) counts) × Looked (now line) (now ends) × RuleIfReady (now line) ⌝ }
+    ensures { λ r. ⌜ LineRule (namesOf (now (sheet .entry)) (tableOf (now (names .entry)) counts)) (formOf (fields (now (line .entry)))) (bodyOf (fields (now (line .entry)))) number past r ⌝ }
 {
-    let f = field::words::form(line);
+    let f = field::words::form(line, ends);
     match f {
         Form::Concept => no_rule(number, past),
         Form::Role => no_rule(number, past),
         Form::Item => no_rule(number, past),
         Form::Statement(_) => no_rule(number, past),
         Form::Rule(w) => {
-            let rule = saying::rules::rule_of(sheet, t, line, field::words::body(line), w);
+            let rule = saying::rules::rule_of(sheet, names, counts, line, ends, 2, w);
             RuleLine {
                 found: true,
                 line: number,
@@ -50,16 +60,26 @@ fn rule_in(sheet: &[u8], t: Table, line: &[u8], number: usize, past: usize) -> R
 }
 
 // The first rule from a place of the sheet on, where a line with the number given begins.
-pub fn next(sheet: &[u8], t: Table, from: usize, first: usize) -> RuleLine
-    requires { ⌜ Roomy t × Paused (now sheet) t from first ⌝ }
-    ensures { λ r. ⌜ Next (now (sheet .entry)) t from first r ⌝ }
+pub fn next(sheet: &[u8], names: &[u32], counts: Counts, from: usize, first: usize) -> RuleLine
+    requires { ⌜ Tidy (now sheet) (tableOf (now names) counts) × Paused (now sheet) (tableOf (now names) counts) from first ⌝ }
+    ensures { λ r. ⌜ Next (now (sheet .entry)) (tableOf (now (names .entry)) counts) from first r ⌝ }
 {
+    let mut ends = [0u16; Sheet::FIELDS];
     let mut at = from;
     let mut line = first;
     while at <= sheet.len() {
-        let end = text::part::end_of(sheet, at, 10);
-        let bytes = text::part::part(sheet, at, end - at);
-        let q = rule_in(sheet, t, bytes, line, end + 1);
+        let s = text::scan::line(sheet, at, &mut ends);
+        let end = s.end;
+        let n = row::number::lesser(s.count, Sheet::FIELDS);
+        let q = rule_in(
+            sheet,
+            names,
+            counts,
+            &sheet[at..end],
+            &ends[..n],
+            line,
+            end + 1,
+        );
         if q.found {
             return q;
         }
@@ -70,10 +90,10 @@ pub fn next(sheet: &[u8], t: Table, from: usize, first: usize) -> RuleLine
 }
 
 // The first rule of an accepted sheet.
-pub fn first(sheet: &[u8], t: Table) -> RuleLine
-    requires { ⌜ Roomy t × Accepts (now sheet) t ⌝ }
-    ensures { λ r. ⌜ Opened (now (sheet .entry)) t r ⌝ }
+pub fn first(sheet: &[u8], names: &[u32], counts: Counts) -> RuleLine
+    requires { ⌜ Tidy (now sheet) (tableOf (now names) counts) × Accepts (now sheet) (tableOf (now names) counts) ⌝ }
+    ensures { λ r. ⌜ Opened (now (sheet .entry)) (tableOf (now (names .entry)) counts) r ⌝ }
 {
     let end = text::part::end_of(sheet, 0, 10);
-    next(sheet, t, end + 1, 2)
+    next(sheet, names, counts, end + 1, 2)
 }

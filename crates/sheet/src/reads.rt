@@ -1,10 +1,13 @@
 // Reading a sheet into a lent store.
 ghost use mathlib.Core.Path.{_≡_};
-ghost use Rattle.sheet.specs.own.Pass.{Judges, Totalled, Wholly, countedIn};
+ghost use lib.ListN.{length};
+ghost use Rattle.field.specs.own.Table.{numberCount, tableOf};
+ghost use Rattle.sheet.specs.own.Pass.{Judges, Since, Totalled, Wholly, countedIn};
 use crate::Reading;
+use crate::Start;
 use crate::Whole;
-use field::Table;
 use judge::Total;
+use store::Counts;
 use store::Store;
 
 // How many findings an answer counts.
@@ -18,13 +21,12 @@ pub fn counted(t: Total) -> u64
 }
 
 // How many findings the rules of an accepted sheet have in all.
-fn count_all(sheet: &[u8], words: &[u64], t: Table) -> u64
-    requires { ⌜ Judges (now sheet) t (now words) ⌝ }
-    ensures { λ r. ⌜ Totalled (now (sheet .entry)) t (now (words .entry)) r ⌝ }
+fn count_all(sheet: &[u8], words: &[u64], names: &[u32], counts: Counts, start: Start) -> u64
+    requires { ⌜ Judges (now sheet) (tableOf (now names) counts) (now words) × Since (now sheet) start ⌝ }
+    ensures { λ r. ⌜ Totalled (now (sheet .entry)) (tableOf (now (names .entry)) counts) (now (words .entry)) r ⌝ }
 {
-    let counts = t.counts;
     let layout = store::size::layout();
-    let mut q = crate::pass::first(sheet, t);
+    let mut q = crate::pass::next(sheet, names, counts, start.at, start.line);
     let mut n = 0;
     let mut total = 0;
     while q.found {
@@ -33,36 +35,40 @@ fn count_all(sheet: &[u8], words: &[u64], t: Table) -> u64
         let answer = p.answer;
         total += counted(answer);
         n += 1;
-        q = crate::pass::next(sheet, t, q.past, q.line + 1);
+        q = crate::pass::next(sheet, names, counts, q.past, q.line + 1);
     }
     total
 }
 
-// Reads a sheet into the lent store; with the table of its names, for those who go through its rules again.
-pub fn whole(sheet: &[u8], words: &mut [u64]) -> Whole
-    ensures { λ r. ⌜ Wholly (now (sheet .entry)) (now (words .entry)) (now (words .exit)) r ⌝ }
+// Reads a sheet into the lent store; with its names, for those who go through its rules again.
+pub fn whole(sheet: &[u8], words: &mut [u64], names: &mut [u32]) -> Whole
+    requires { ⌜ length (now names) ≡ numberCount ⌝ }
+    ensures { λ r. ⌜ Wholly (now (sheet .entry)) (now (words .entry)) (now (words .exit)) (now (names .exit)) r ⌝ }
 {
     if words.len() != Store::WORDS {
-        let table = field::tables::empty();
+        let counts = field::tables::none();
         return Whole {
             answer: Reading::Refused(0, 1),
-            table,
+            counts,
+            start: Start { at: 0, line: 0 },
         };
     }
-    let e = crate::sheets::fill(sheet, words);
+    let e = crate::sheets::fill(sheet, words, names);
     let kept = e.kept;
-    let table = kept.table;
+    let counts = kept.counts;
+    let start = e.start;
     if e.why == 0 {
         let marks = kept.marks;
-        let counts = table.counts;
-        let total = count_all(sheet, words, table);
+        let total = count_all(sheet, words, names, counts, start);
         return Whole {
             answer: Reading::Accepted(counts, marks.rules, total),
-            table,
+            counts,
+            start,
         };
     }
     Whole {
         answer: Reading::Refused(e.line, e.why),
-        table,
+        counts,
+        start,
     }
 }

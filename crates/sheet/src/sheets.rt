@@ -1,101 +1,155 @@
 ghost use mathlib.Core.Path.{_≡_};
-ghost use Prim.Native.Nat.{_≤_};
-ghost use lib.ListN.{length};
-ghost use Rattle.row.specs.own.Change.{Zeroed};
+ghost use mathlib.Core.Bool.{cond};
+ghost use Prim.Native.Nat.{_+_, _≤_};
+ghost use lib.Dec.{eqb};
+ghost use lib.ListN.{length, replicate};
 ghost use Rattle.text.specs.own.Split.{partsFrom};
 ghost use Rattle.line.specs.Fault.{sheetLimit};
 ghost use Rattle.store.specs.Layout.{size, width};
+ghost use Rattle.field.specs.own.Table.{numberCount};
 ghost use Rattle.sheet.specs.Said.{nothing, outcome, outcomeFrom};
-ghost use Rattle.sheet.specs.own.Stands.{Ends, Opens, Stands, Blank};
+ghost use Rattle.sheet.specs.own.Stands.{Ends, Fills, Opens, blankKept, tooLong};
 use crate::Ended;
 use crate::Kept;
+use crate::Start;
 use line::Marks;
 use line::Sheet;
 
-// Reads the lines from a place of the sheet on, the first of which is line 2, up to the end or to the first faulty line.
-fn read_lines(sheet: &[u8], words: &mut [u64], from: usize, first: Kept) -> Ended
-    requires { ⌜ (length (now sheet) ≤ sheetLimit) × Stands (now sheet) (first .table) (first .marks) (now words) nothing ⌝ }
-    ensures { λ r. ⌜ Ends (now (sheet .entry)) (outcomeFrom 2 nothing (partsFrom 10 (now (sheet .entry)) from)) (now (words .exit)) r ⌝ }
+// Nothing is kept yet.
+fn blank() -> Kept
+    ensures { λ r. ⌜ r ≡ blankKept ⌝ }
 {
+    let counts = field::tables::none();
+    let marks = Marks {
+        stated: false,
+        rules: 0,
+    };
+    Kept { counts, marks }
+}
+
+// Where the rules begin, as far as is known: at the line that comes next, if there was no rule, and else where it was.
+fn start_from(rules: usize, at: usize, line: usize, before: Start) -> Start
+    ensures { λ r. ⌜ r ≡ cond (eqb rules 0) (record { at = at; line = line }) before ⌝ }
+{
+    if rules == 0 {
+        return Start { at, line };
+    }
+    before
+}
+
+// Reads the lines from a place of the sheet on, the first of which is line 2, up to the end or to the first faulty line.
+fn read_lines(sheet: &[u8], words: &mut [u64], names: &mut [u32], from: usize) -> Ended
+    requires { ⌜ (length (now sheet) ≤ sheetLimit) × (now words ≡ replicate (size width) 0) × (length (now names) ≡ numberCount) × (from ≤ length (now sheet) + 1) ⌝ }
+    ensures { λ r. ⌜ Ends (now (sheet .entry)) (outcomeFrom 2 nothing (partsFrom 10 (now (sheet .entry)) from)) (now (names .exit)) (now (words .exit)) r ⌝ }
+{
+    let mut ends = [0u16; Sheet::FIELDS];
     let mut at = from;
     let mut line = 2;
-    let mut kept = first;
+    let mut kept = blank();
+    let mut start = Start { at, line };
     while at <= sheet.len() {
-        let end = text::part::end_of(sheet, at, 10);
-        let bytes = text::part::part(sheet, at, end - at);
-        let t = kept.table;
-        let m = kept.marks;
-        let why = line::lines::line_fault(sheet, t, m, bytes);
-        if why == 0 {
-            kept = crate::taking::take(sheet, words, kept, at, bytes);
-            line += 1;
-            at = end + 1;
-        } else {
-            return Ended { line, why, kept };
+        let s = text::scan::line(sheet, at, &mut ends);
+        let end = s.end;
+        let n = row::number::lesser(s.count, Sheet::FIELDS);
+        let r = crate::taking::read(
+            sheet,
+            words,
+            names,
+            kept,
+            at,
+            &sheet[at..end],
+            s.good,
+            &ends[..n],
+        );
+        kept = r.kept;
+        if r.why != 0 {
+            return Ended {
+                line,
+                why: r.why,
+                kept,
+                start,
+            };
         }
+        line += 1;
+        at = end + 1;
+        let now = kept.marks;
+        start = start_from(now.rules, at, line, start);
     }
     Ended {
         line: 0,
         why: 0,
         kept,
+        start,
     }
 }
 
-// Nothing is kept yet.
-fn blank() -> Kept
-    ensures { λ r. ⌜ Blank r ⌝ }
+// Reads the lines of a sheet that is not too long into words that are all 0, up to the end or to the first faulty line.
+fn read_all(sheet: &[u8], words: &mut [u64], names: &mut [u32]) -> Ended
+    requires { ⌜ (length (now sheet) ≤ sheetLimit) × (now words ≡ replicate (size width) 0) × (length (now names) ≡ numberCount) ⌝ }
+    ensures { λ r. ⌜ Ends (now (sheet .entry)) (outcome (now (sheet .entry))) (now (names .exit)) (now (words .exit)) r ⌝ }
 {
-    let table = field::tables::empty();
-    let marks = Marks {
-        stated: false,
-        rules: 0,
-    };
-    Kept { table, marks }
-}
-
-// Nothing is said yet: the lent words are all 0, and nothing is kept.
-fn clear(words: &mut [u64]) -> Kept
-    ensures { λ r. ⌜ Blank r × Zeroed (now (words .entry)) (now (words .exit)) ⌝ }
-{
-    rewrite::change::zero_all(words);
-    blank()
-}
-
-// Reads the lines of a sheet that is not too long, up to the end or to the first faulty line.
-fn read_all(sheet: &[u8], words: &mut [u64]) -> Ended
-    requires { ⌜ (length (now sheet) ≤ sheetLimit) × (length (now words) ≡ size width) ⌝ }
-    ensures { λ r. ⌜ Ends (now (sheet .entry)) (outcome (now (sheet .entry))) (now (words .exit)) r ⌝ }
-{
-    let kept = clear(words);
     let end = text::part::end_of(sheet, 0, 10);
     let why = line::lines::header_fault(text::part::part(sheet, 0, end));
     if why == 0 {
-        return read_lines(sheet, words, end + 1, kept);
+        return read_lines(sheet, words, names, end + 1);
     }
-    Ended { line: 1, why, kept }
+    let kept = blank();
+    Ended {
+        line: 1,
+        why,
+        kept,
+        start: Start { at: 0, line: 0 },
+    }
 }
 
-// Reads a sheet into the lent store: its names, and what follows from its statements.
-pub fn fill(sheet: &[u8], words: &mut [u64]) -> Ended
-    requires { ⌜ length (now words) ≡ size width ⌝ }
-    ensures { λ r. ⌜ Opens (now (sheet .entry)) (now (words .entry)) (now (words .exit)) r ⌝ }
+// How a sheet ends that is too long.
+fn too_long() -> Ended
+    ensures { λ r. ⌜ r ≡ tooLong ⌝ }
 {
-    if Sheet::BYTES < sheet.len() {
-        let kept = blank();
-        return Ended {
-            line: 0,
-            why: 9,
-            kept,
-        };
+    let kept = blank();
+    Ended {
+        line: 0,
+        why: 9,
+        kept,
+        start: Start { at: 0, line: 0 },
     }
-    let r = read_all(sheet, words);
+}
+
+// Reads a sheet that is not too long into a store whose words are all 0: its names, and what follows from its statements.
+fn fill_short(sheet: &[u8], words: &mut [u64], names: &mut [u32]) -> Ended
+    requires { ⌜ (length (now sheet) ≤ sheetLimit) × (now words ≡ replicate (size width) 0) × (length (now names) ≡ numberCount) ⌝ }
+    ensures { λ r. ⌜ Fills (now (sheet .entry)) (now (names .exit)) (now (words .exit)) r ⌝ }
+{
+    let r = read_all(sheet, words, names);
     if r.why == 0 {
         let kept = r.kept;
-        let table = kept.table;
+        let counts = kept.counts;
         let marks = kept.marks;
-        let counts = table.counts;
         crate::keeping::begin(words, counts, marks);
         return r;
     }
     r
+}
+
+// Reads a sheet into a lent store whose words are all 0.
+pub fn fill_blank(sheet: &[u8], words: &mut [u64], names: &mut [u32]) -> Ended
+    requires { ⌜ (now words ≡ replicate (size width) 0) × (length (now names) ≡ numberCount) ⌝ }
+    ensures { λ r. ⌜ Opens (now (sheet .entry)) (now (words .entry)) (now (names .exit)) (now (words .exit)) r ⌝ }
+{
+    if Sheet::BYTES < sheet.len() {
+        return too_long();
+    }
+    fill_short(sheet, words, names)
+}
+
+// Reads a sheet into the lent store.
+pub fn fill(sheet: &[u8], words: &mut [u64], names: &mut [u32]) -> Ended
+    requires { ⌜ (length (now words) ≡ size width) × (length (now names) ≡ numberCount) ⌝ }
+    ensures { λ r. ⌜ Opens (now (sheet .entry)) (now (words .entry)) (now (names .exit)) (now (words .exit)) r ⌝ }
+{
+    if Sheet::BYTES < sheet.len() {
+        return too_long();
+    }
+    rewrite::change::zero_all(words);
+    fill_short(sheet, words, names)
 }

@@ -1,87 +1,116 @@
 ghost use mathlib.Core.Path.{_≡_};
 ghost use mathlib.Core.Bool.{false};
-ghost use Prim.Native.Nat.{_<_};
-ghost use lib.ListN.{length};
-ghost use Rattle.text.specs.own.Split.{partsFrom};
+ghost use Prim.Native.Nat.{_+_, _<_};
+ghost use lib.ListN.{length, drop, replicate};
+ghost use Rattle.text.specs.Split.{fields};
+ghost use Rattle.text.specs.own.Scan.{startBy};
 ghost use Rattle.store.specs.Cell.{Within, cellOf};
 ghost use Rattle.store.specs.Layout.{Fits, size, width};
 ghost use Rattle.line.specs.Fault.{begun, none, ruleLimit};
 ghost use Rattle.sheet.specs.Said.{Said, lineSaid, saying};
 ghost use Rattle.saying.specs.Read.{statementOf};
-ghost use Rattle.sheet.specs.own.Stands.{Begins, Stands, Taken, Takes, oneRule};
-ghost use Rattle.field.specs.own.Table.{namesOf};
+ghost use Rattle.sheet.specs.own.Stands.{Adding, Begins, Came, Comes, Declaration, Standing, Stands, Taken, Takes, oneRule, oneStated};
+ghost use Rattle.field.specs.own.Table.{Noted, entryOf, hintAt, hintsFrom, namesOf, numberCount, placeCount, tableOf};
+ghost use Rattle.field.specs.own.Line.{Looked};
+ghost use Rattle.field.specs.Words.{at as fieldOf};
 use crate::Kept;
+use crate::LineRead;
 use field::Form;
 use field::StatementWord;
+use field::Table;
 use line::Marks;
+use store::Statement;
 
-// Takes a statement: adds it to the store, which is made fresh by the first one.
-fn take_statement(
-    sheet: &[u8],
-    words: &mut [u64],
-    k: Kept,
-    line: &[u8],
-    from: usize,
-    w: StatementWord,
-) -> Kept
-    requires { ⌜ ((x : Said) × Stands (now sheet) (k .table) (k .marks) (now words) x) × Within (k .table .counts) (cellOf (statementOf (namesOf (now sheet) (k .table)) w (partsFrom 9 (now line) from))) ⌝ }
-    ensures { λ r. ⌜ Taken (now (sheet .entry)) (k .table) (k .marks) (now (words .entry)) (λ j x. saying j x (Form.Statement w) (partsFrom 9 (now (line .entry)) from)) (r .table) (r .marks) (now (words .exit)) ⌝ }
+// Adds a statement to the store, which is made fresh by the first one.
+fn add(words: &mut [u64], k: Kept, s: Statement) -> Kept
+    requires { ⌜ Standing k (now words) × Within (k .counts) (cellOf s) ⌝ }
+    ensures { λ r. ⌜ (r ≡ oneStated k) × Adding (begun (k .marks)) (k .counts) s (now (words .entry)) (now (words .exit)) ⌝ }
 {
-    let table = k.table;
+    let counts = k.counts;
     let m = k.marks;
-    let counts = table.counts;
     crate::keeping::begin(words, counts, m);
-    let s = saying::statements::statement(sheet, table, line, from, w);
     crate::keeping::state(words, counts, s);
     let marks = Marks {
         stated: true,
         rules: m.rules,
     };
-    Kept { table, marks }
+    Kept { counts, marks }
+}
+
+// Takes a statement: adds it to the store.
+fn take_statement(
+    sheet: &[u8],
+    words: &mut [u64],
+    names: &[u32],
+    k: Kept,
+    line: &[u8],
+    ends: &[u16],
+    w: StatementWord,
+) -> Kept
+    requires { ⌜ ((x : Said) × Stands (now sheet) (tableOf (now names) (k .counts)) (k .marks) (now words) x) × Looked (now line) (now ends) × Within (k .counts) (cellOf (statementOf (namesOf (now sheet) (tableOf (now names) (k .counts))) w (drop 1 (fields (now line))))) ⌝ }
+    ensures { λ r. ⌜ Taken (now (sheet .entry)) (tableOf (now (names .entry)) (k .counts)) (k .marks) (now (words .entry)) (λ j x. saying j x (Form.Statement w) (drop 1 (fields (now (line .entry))))) (tableOf (now (names .entry)) (r .counts)) (r .marks) (now (words .exit)) ⌝ }
+{
+    let s = saying::statements::statement(sheet, names, k.counts, line, ends, 1, w);
+    add(words, k, s)
 }
 
 // Takes a rule: the store is made fresh by the first one, and there is one rule more.
 fn take_rule(words: &mut [u64], k: Kept) -> Kept
-    requires { ⌜ (length (now words) ≡ size width) × Fits width (k .table .counts) × (k .marks .rules < ruleLimit) ⌝ }
-    ensures { λ r. ⌜ (r ≡ oneRule k) × Begins (begun (k .marks)) (k .table .counts) (now (words .entry)) (now (words .exit)) ⌝ }
+    requires { ⌜ (begun (k .marks) ≡ false → now words ≡ replicate (size width) 0) × Fits width (k .counts) × (k .marks .rules < ruleLimit) ⌝ }
+    ensures { λ r. ⌜ (r ≡ oneRule k) × Begins (begun (k .marks)) (k .counts) (now (words .entry)) (now (words .exit)) ⌝ }
 {
-    let table = k.table;
+    let counts = k.counts;
     let m = k.marks;
-    let counts = table.counts;
     crate::keeping::begin(words, counts, m);
     let marks = Marks {
         stated: m.stated,
         rules: m.rules + 1,
     };
-    Kept { table, marks }
+    Kept { counts, marks }
+}
+
+// Notes the name that a declaration declares, as the one after n others whose entries begin at `from`; the line starts at a place of the sheet.
+fn declare(names: &mut [u32], from: usize, n: usize, start: usize, line: &[u8], ends: &[u16])
+    requires { ⌜ (length (now names) ≡ numberCount) × (from + n < hintsFrom) × Looked (now line) (now ends) × Declaration (now line) × (start + length (now line) < placeCount) ⌝ }
+    ensures { λ _. ⌜ Noted (now (names .entry)) (from + n) (entryOf (fieldOf 1 (fields (now (line .entry)))) (start + startBy 0 (now (ends .entry)) 1)) (hintAt from (fieldOf 1 (fields (now (line .entry))))) (now (names .exit)) ⌝ }
+{
+    let place = start + text::scan::start(ends, 1);
+    field::tables::note(names, from, n, place, text::scan::field(line, ends, 1));
 }
 
 // Takes a line that is not empty and has no fault, and starts at a place of the sheet.
-fn take_form(sheet: &[u8], words: &mut [u64], k: Kept, start: usize, line: &[u8]) -> Kept
-    requires { ⌜ Takes (now sheet) (k .table) (k .marks) (now words) start (now line) × (none (now line) ≡ false) ⌝ }
-    ensures { λ r. ⌜ Taken (now (sheet .entry)) (k .table) (k .marks) (now (words .entry)) (λ j x. lineSaid j x (now (line .entry))) (r .table) (r .marks) (now (words .exit)) ⌝ }
+fn take_form(
+    sheet: &[u8],
+    words: &mut [u64],
+    names: &mut [u32],
+    k: Kept,
+    start: usize,
+    line: &[u8],
+    ends: &[u16],
+) -> Kept
+    requires { ⌜ Takes (now sheet) (tableOf (now names) (k .counts)) (k .marks) (now words) start (now line) × Looked (now line) (now ends) × (none (now line) ≡ false) ⌝ }
+    ensures { λ r. ⌜ Taken (now (sheet .entry)) (tableOf (now (names .entry)) (k .counts)) (k .marks) (now (words .entry)) (λ j x. lineSaid j x (now (line .entry))) (tableOf (now (names .exit)) (r .counts)) (r .marks) (now (words .exit)) ⌝ }
 {
-    let f = field::words::form(line);
-    let from = field::words::body(line);
-    let t = k.table;
+    let f = field::words::form(line, ends);
+    let mut counts = k.counts;
     let marks = k.marks;
     match f {
         Form::Concept => {
-            let p = field::tables::entry(start, line, from);
-            let table = field::tables::with_concept(t, p);
-            Kept { table, marks }
+            declare(names, Table::CONCEPTS, counts.concepts, start, line, ends);
+            counts.concepts += 1;
+            Kept { counts, marks }
         }
         Form::Role => {
-            let p = field::tables::entry(start, line, from);
-            let table = field::tables::with_role(t, p);
-            Kept { table, marks }
+            declare(names, Table::ROLES, counts.roles, start, line, ends);
+            counts.roles += 1;
+            Kept { counts, marks }
         }
         Form::Item => {
-            let p = field::tables::entry(start, line, from);
-            let table = field::tables::with_item(t, p);
-            Kept { table, marks }
+            declare(names, Table::ITEMS, counts.items, start, line, ends);
+            counts.items += 1;
+            Kept { counts, marks }
         }
-        Form::Statement(w) => take_statement(sheet, words, k, line, from, w),
+        Form::Statement(w) => take_statement(sheet, words, names, k, line, ends, w),
         Form::Rule(_) => take_rule(words, k),
         Form::Bare => k,
         Form::Unknown => k,
@@ -89,12 +118,50 @@ fn take_form(sheet: &[u8], words: &mut [u64], k: Kept, start: usize, line: &[u8]
 }
 
 // Takes a line without a fault, which starts at a place of the sheet.
-pub fn take(sheet: &[u8], words: &mut [u64], k: Kept, start: usize, line: &[u8]) -> Kept
-    requires { ⌜ Takes (now sheet) (k .table) (k .marks) (now words) start (now line) ⌝ }
-    ensures { λ r. ⌜ Taken (now (sheet .entry)) (k .table) (k .marks) (now (words .entry)) (λ j x. lineSaid j x (now (line .entry))) (r .table) (r .marks) (now (words .exit)) ⌝ }
+fn take(
+    sheet: &[u8],
+    words: &mut [u64],
+    names: &mut [u32],
+    k: Kept,
+    start: usize,
+    line: &[u8],
+    ends: &[u16],
+) -> Kept
+    requires { ⌜ Takes (now sheet) (tableOf (now names) (k .counts)) (k .marks) (now words) start (now line) × Looked (now line) (now ends) ⌝ }
+    ensures { λ r. ⌜ Taken (now (sheet .entry)) (tableOf (now (names .entry)) (k .counts)) (k .marks) (now (words .entry)) (λ j x. lineSaid j x (now (line .entry))) (tableOf (now (names .exit)) (r .counts)) (r .marks) (now (words .exit)) ⌝ }
 {
     if line.len() == 0 {
         return k;
     }
-    take_form(sheet, words, k, start, line)
+    take_form(sheet, words, names, k, start, line, ends)
+}
+
+// Reads a line, which starts at a place of the sheet: takes it, if it has no fault.
+pub fn read(
+    sheet: &[u8],
+    words: &mut [u64],
+    names: &mut [u32],
+    k: Kept,
+    start: usize,
+    line: &[u8],
+    good: bool,
+    ends: &[u16],
+) -> LineRead
+    requires { ⌜ Comes (now sheet) (tableOf (now names) (k .counts)) (k .marks) (now words) start (now line) good (now ends) ⌝ }
+    ensures { λ r. ⌜ Came (now (sheet .entry)) (tableOf (now (names .entry)) (k .counts)) (k .marks) (now (words .entry)) (now (line .entry)) (r .why) (tableOf (now (names .exit)) (r .kept .counts)) (r .kept .marks) (now (words .exit)) ⌝ }
+{
+    let counts = k.counts;
+    let marks = k.marks;
+    let q = crate::quick::statement_in(sheet, names, counts, marks, line, good, ends);
+    if q.found {
+        let s = q.statement;
+        let kept = add(words, k, s);
+        return LineRead { why: 0, kept };
+    }
+    let why = line::lines::line_fault(sheet, names, counts, marks, line, good, ends);
+    if why == 0 {
+        let kept = take(sheet, words, names, k, start, line, ends);
+        return LineRead { why, kept };
+    }
+    LineRead { why, kept: k }
 }

@@ -20,18 +20,18 @@ use Rattle.sheet.specs.declared.Ended.{Ended}
 use Rattle.line.specs.declared.Marks.{Marks}
 use Rattle.sheet.specs.declared.Reading.the-variants as reading
 use Rattle.sheet.specs.declared.RuleLine.{RuleLine}
-use Rattle.field.specs.declared.Table.{Table}
 use Rattle.field.specs.Names.{countsOf}
-use Rattle.sheet.specs.own.Pass.{Counted, Judges, Next, NextRule, Opened, Passing, Paused, Totalled, Wholly, countedIn, foundRule}
+use Rattle.sheet.specs.own.Pass.{Counted, Judges, Next, NextRule, Opened, Passing, Paused, Since, Totalled, Wholly, countedIn, foundRule}
 use Rattle.sheet.specs.Promise.{FindingsFrom, FindingsIn, Held, Reads}
 use Rattle.sheet.specs.Promise.FindingsFrom.{none, more}
 use Rattle.sheet.specs.Promise.Reads.{wrong-size, refused as refusedRead, accepted as acceptedRead}
 use Rattle.sheet.specs.Said.{Outcome, Said, SheetRule, outcome}
 use Rattle.sheet.specs.Said.Outcome.{accepted, refused}
-use Rattle.sheet.specs.own.Stands.{Opens}
-use Rattle.field.specs.own.Table.{Roomy, namesOf, Places}
+use Rattle.sheet.specs.declared.Start.{Start}
+use Rattle.sheet.specs.own.Stands.{Opens, keptTable}
+use Rattle.field.specs.own.Table.{Table, Tidy, namesOf, tableOf}
 use Rattle.rule.specs.laws.Few.{few-findings}
-use Rattle.sheet.specs.laws.Pass.{not-both, passing-rest, saidOf}
+use Rattle.sheet.specs.laws.Pass.{not-both, passing-rest, passing-since, saidOf}
 use Rattle.sheet.specs.laws.Stands.{counts-of}
 
 -- ---- going through the rules
@@ -46,6 +46,10 @@ pub record Turn (sheet : List ℕ) (t : Table) (x : Said) (P : List SheetRule �
 module _ {sheet : List ℕ} {t : Table} {x : Said} {P : List SheetRule → Type 0} {q : RuleLine} where
   pub turn-start : Opened sheet t q → outcome sheet ≡ accepted x → x .names ≡ namesOf sheet t → P [] → Turn sheet t x P q 0
   turn-start w o n h = record { done = []; next = w .rule x o n; number = refl; holds = h }
+
+  -- from where the rules begin
+  pub turn-since : {b : Start} → Next sheet t (b .at) (b .line) q → Since sheet b → outcome sheet ≡ accepted x → x .names ≡ namesOf sheet t → P [] → Turn sheet t x P q 0
+  turn-since {b = b} w v o n h = record { done = []; next = w .rule x [] (passing-since sheet t x b v o n); number = refl; holds = h }
 
   module _ {n : ℕ} (w : Turn sheet t x P q n) where
     -- no rule comes next: P holds of all
@@ -108,40 +112,46 @@ counted-few h z = omega (arith, ap countedIn (z .answer), few-findings h (z .fin
 -- ---- the whole sheet
 
 -- a store of another length
-pub whole-size : (sheet s : List ℕ) (t : Table) → Roomy t → ¬ (length s ≡ size width) → Wholly sheet s s (record { answer = reading.Refused 0 1; table = t })
-whole-size sheet s t h z = record { reads = wrong-size z refl; room = h; names = λ x l o. absurd (z l) }
+pub whole-size : (sheet s numbers : List ℕ) (c : Counts) (b : Start) → Tidy sheet (tableOf numbers c) → ¬ (length s ≡ size width) → Wholly sheet s s numbers (record { answer = reading.Refused 0 1; counts = c; start = b })
+whole-size sheet s numbers c b h z = record { reads = wrong-size z refl; tidy = h; names = λ x l o. absurd (z l); start = λ x l o. absurd (z l) }
 
 reads-as : {sheet s t : List ℕ} {x : Said} {fs : List Finding} {n : Counts} {m k : ℕ} → n ≡ countsOf (x .names) → m ≡ length (x .rules) → k ≡ length fs → length s ≡ size width → outcome sheet ≡ accepted x → Held x t
     → FindingsIn x t fs → Reads sheet s t (reading.Accepted n m k)
 reads-as e f g l o h a = rw (e, f, g) (acceptedRead l o h a)
 
 -- an accepted sheet: its outcome, its store, its counts
-module _ {sheet s t : List ℕ} {e : Ended} (w : Opens sheet s t e) (z : e .why ≡ 0) where
+module _ {sheet s numbers t : List ℕ} {e : Ended} (w : Opens sheet s numbers t e) (z : e .why ≡ 0) where
   pub opens-outcome : outcome sheet ≡ accepted (w .said)
   opens-outcome = w .ends ∙ rw (eq-eqb _ _ z)
 
   pub opens-held : Held (w .said) t
   opens-held = rw (eq-eqb _ _ z) at (w .leaves)
 
-  module _ (p : Places (e .kept .table)) where
-    opens-counts : countsOf (w .said .names) ≡ e .kept .table .counts
-    opens-counts = ap countsOf (w .names) ∙ counts-of sheet (e .kept .table) p (w .room)
+  opens-counts : countsOf (w .said .names) ≡ e .kept .counts
+  opens-counts = ap countsOf (w .names) ∙ counts-of sheet (keptTable numbers e) (w .tidy)
 
-    pub opens-judges : Judges sheet (e .kept .table) t
-    opens-judges = record { room = w .room; sheetSaid = record { said = w .said; ends = opens-outcome; names = w .names }; store = rw opens-counts at (opens-held .store) }
+  pub opens-judges : Judges sheet (keptTable numbers e) t
+  opens-judges = record { tidy = w .tidy; sheetSaid = record { said = w .said; ends = opens-outcome; names = w .names }; store = rw opens-counts at (opens-held .store) }
 
-    pub whole-accepted : {total : ℕ} → length s ≡ size width → Totalled sheet (e .kept .table) t total
-        → Wholly sheet s t (record { answer = reading.Accepted (e .kept .table .counts) (e .kept .marks .rules) total; table = e .kept .table })
-    whole-accepted {total} long c =
-        let a = c (w .said) opens-outcome (w .names) in
-        record {
-          reads = reads-as (sym opens-counts) (sym (ap (λ (m : Marks). m .rules) (w .marks))) (a .all) long opens-outcome opens-held (a .findings);
-          room = w .room;
-          names = λ x l o. ap (λ (y : Outcome). saidOf y .names) (sym o ∙ opens-outcome) ∙ w .names;
-        }
+  pub whole-accepted : {total : ℕ} → length s ≡ size width → Totalled sheet (keptTable numbers e) t total
+      → Wholly sheet s t numbers (record { answer = reading.Accepted (e .kept .counts) (e .kept .marks .rules) total; counts = e .kept .counts; start = e .start })
+  whole-accepted {total} long c =
+      let a = c (w .said) opens-outcome (w .names) in
+      record {
+        reads = reads-as (sym opens-counts) (sym (ap (λ (m : Marks). m .rules) (w .marks))) (a .all) long opens-outcome opens-held (a .findings);
+        tidy = w .tidy;
+        names = λ x l o. ap (λ (y : Outcome). saidOf y .names) (sym o ∙ opens-outcome) ∙ w .names;
+        start = λ x l o. w .start z;
+      }
 
 -- a refused one
-pub whole-refused : {sheet s t : List ℕ} {e : Ended} → length s ≡ size width → Opens sheet s t e → (e .why ≡ 0 → ⊥) → Wholly sheet s t (record { answer = reading.Refused (e .line) (e .why); table = e .kept .table })
+pub whole-refused : {sheet s numbers t : List ℕ} {e : Ended} → length s ≡ size width → Opens sheet s numbers t e → (e .why ≡ 0 → ⊥)
+    → Wholly sheet s t numbers (record { answer = reading.Refused (e .line) (e .why); counts = e .kept .counts; start = e .start })
 whole-refused {sheet} {e = e} long w z =
     let o : outcome sheet ≡ refused (e .line) (e .why) (w .said) = w .ends ∙ rw (ne-eqb _ _ z) in
-    record { reads = refusedRead long o (rw (ne-eqb _ _ z) at (w .leaves)); room = w .room; names = λ x l a. absurd (not-both (sym o ∙ a)) }
+    record {
+      reads = refusedRead long o (rw (ne-eqb _ _ z) at (w .leaves));
+      tidy = w .tidy;
+      names = λ x l a. absurd (not-both (sym o ∙ a));
+      start = λ x l a. absurd (not-both (sym o ∙ a));
+    }

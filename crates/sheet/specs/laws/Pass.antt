@@ -2,12 +2,13 @@
 use mathlib.Core.Path.{_≡_, refl, sym, ap, _∙_}
 use mathlib.Core.Bool.{Bool, true, false, cond, true≢false}
 use mathlib.Core.List.{List, [], _∷_, _++_, append-assoc, append-nil}
-use Prim.Native.Nat.{ℕ, _+_, _-_, _≤_, _<_, zero-le}
+use Prim.Native.Nat.{ℕ, _+_, _≤_, _<_, zero-le}
 use native.Mathlib.Omega.{arith}
 use borrow.Author.Tests.{eqb-true, leb-true}
 use lib.Dec.{eqb, leb}
-use lib.ListN.{length}
-use Rattle.text.specs.own.Split.{partOf, endOf, partsFrom}
+use lib.ListN.{length, drop}
+use Rattle.text.specs.own.Scan.{lineAt}
+use Rattle.text.specs.own.Split.{endOf, partsFrom}
 use Rattle.text.specs.Bytes.{same}
 use Rattle.text.specs.Split.{fields, lines, split}
 use Rattle.text.specs.laws.Split.{end-ge, end-le, parts-all, parts-next, parts-none}
@@ -15,16 +16,18 @@ use Rattle.field.specs.declared.Form.{Form}
 use Rattle.field.specs.declared.Form.the-variants as form
 use Rattle.sheet.specs.declared.RuleLine.{RuleLine}
 use Rattle.field.specs.declared.RuleWord.{RuleWord}
-use Rattle.field.specs.declared.Table.{Table}
-use Rattle.line.specs.Fault.{headerFault, lineFault, none, sheetLimit}
+use Rattle.line.specs.Fault.{headerFault, lineFault, lineLimit, none, sheetLimit}
 use Rattle.field.specs.Names.{Names}
-use Rattle.sheet.specs.own.Pass.{LineRule, Passing, RuleIfReady, foundRule}
+use Rattle.sheet.specs.declared.Start.{Start}
+use Rattle.sheet.specs.own.Pass.{LineRule, Passing, RuleIfReady, Since, foundRule}
 use Rattle.saying.specs.Read.{ruleOf}
 use Rattle.sheet.specs.Said.{Outcome, Said, SheetRule, lineSaid, marksOf, nothing, outcome, outcomeFrom, outcomeOf, saying}
 use Rattle.sheet.specs.Said.Outcome.{accepted, refused}
-use Rattle.field.specs.own.Table.{namesOf}
+use Rattle.field.specs.own.Table.{Table, namesOf}
 use Rattle.field.specs.Words.{Field, bodyOf, formOf, lineForm}
+use Rattle.field.specs.laws.Words.{body-words}
 use Rattle.line.specs.laws.Accepted.{line-accepted}
+use Rattle.sheet.specs.laws.Taken.{right-short}
 use Rattle.sheet.specs.laws.Settled.{rule-begun, sheet-settled}
 
 -- what was said up to the end
@@ -110,6 +113,13 @@ pub rule-said : (k : ℕ) (s : Said) (l : List ℕ) (w : RuleWord) → formOf (f
 unfolding lineSaid
 rule-said k s l w e = rw (rule-some l w e, e)
 
+-- its fields after its words
+pub rule-body : (l : List ℕ) (w : RuleWord) → formOf (fields l) ≡ form.Rule w → drop 2 (fields l) ≡ bodyOf (fields l)
+rule-body l w e = rw e at (body-words (fields l) (λ u. let z : form.Unknown ≡ form.Rule w = sym u ∙ e in absurd (not-rule w z)))
+  where
+    not-rule : (v : RuleWord) → form.Unknown ≡ form.Rule v → ⊥
+    not-rule v z = let y : _≡_ {A = ℕ} 0 1 = cc in omega arith
+
 -- ---- the second reading at a line
 
 module _ {sheet : List ℕ} {t : Table} {x : Said} {done : List SheetRule} {at k : ℕ} (p : Passing sheet t x done at k) where
@@ -121,11 +131,15 @@ module _ {sheet : List ℕ} {t : Table} {x : Said} {done : List SheetRule} {at k
       ap (λ (o : Outcome). saidOf o .rules) (sym e) ∙ p .rules
 
   -- a line, and its end
-  module _ (e : ℕ) (l : List ℕ) (g : at ≤ length sheet) (ends : e ≡ endOf 10 sheet at) (is : l ≡ partOf sheet at (e - at)) where
+  module _ (e : ℕ) (l : List ℕ) (g : at ≤ length sheet) (ends : e ≡ endOf 10 sheet at) (is : l ≡ lineAt sheet at) where
     stepped : (lineFault (p .said .names) (marksOf (p .said)) l ≡ 0) × (outcomeFrom (k + 1) (lineSaid k (p .said) l) (partsFrom 10 sheet (e + 1)) ≡ accepted x)
     stepped =
-        let parted : partsFrom 10 sheet at ≡ l ∷ partsFrom 10 sheet (e + 1) = parts-next 10 sheet at g ∙ rw (← ends, ← is) in
+        let parted : partsFrom 10 sheet at ≡ l ∷ partsFrom 10 sheet (e + 1) = parts-next 10 sheet at g ∙ rw (is, ends) in
         accepted-step k (p .said) x l (partsFrom 10 sheet (e + 1)) (rw parted at (p .rest))
+
+    -- the line is not too long
+    pub passing-short : length l ≤ lineLimit
+    passing-short = right-short (p .said .names) (marksOf (p .said)) l (stepped .0)
 
     -- the fields of a rule are those that are due
     pub passing-ready : RuleIfReady l
@@ -181,6 +195,11 @@ pub passing-start : (sheet : List ℕ) (t : Table) (x : Said) (e : ℕ) → e �
 passing-start sheet t x e ends o n =
     let z = accepted-start sheet x o in
     record { said = nothing; names = n; rules = refl; rest = rw ends (z .1); short = z .0; inside = omega (arith, ends, end-le 10 sheet 0 zero-le); near = omega arith }
+
+-- where the rules begin
+pub passing-since : (sheet : List ℕ) (t : Table) (x : Said) (b : Start) → Since sheet b → outcome sheet ≡ accepted x → x .names ≡ namesOf sheet t → Passing sheet t x [] (b .at) (b .line)
+passing-since sheet t x b w o n =
+    record { said = w .said; names = n; rules = w .rules; rest = w .rest ∙ o; short = accepted-start sheet x o .0; inside = w .inside; near = w .near }
 
 -- ---- what is done is the first part of all
 

@@ -6,19 +6,22 @@ use native.Mathlib.Omega.{arith}
 use borrow.Author.Tests.{eq-eqb, le-leb, lt-leb, ne-eqb}
 use lib.ListN.{getD-replicate, length, length-replicate, replicate}
 use lib.Seq.{ext-getD}
+use Rattle.logic.specs.laws.Number.{one-none}
 use Rattle.row.specs.own.Change.{Zeroed}
+use Rattle.text.specs.Name.{isName}
 use Rattle.text.specs.own.Split.{partOf, endOf, partsFrom}
 use Rattle.text.specs.laws.Split.{parts-all, parts-next}
 use Rattle.store.specs.Layout.{size, width}
 use Rattle.sheet.specs.declared.Ended.{Ended}
-use Rattle.sheet.specs.declared.Kept.{Kept}
+use Rattle.sheet.specs.declared.Start.{Start}
 use Rattle.line.specs.declared.Marks.{Marks}
 use Rattle.line.specs.Fault.{begun, headerFault, sheetLimit}
 use Rattle.sheet.specs.Promise.{Leaves, Stopped}
 use Rattle.sheet.specs.Said.{Said, marksOf, nothing, outcome, outcomeFrom, outcomeOf}
 use Rattle.sheet.specs.Said.Outcome.{refused}
-use Rattle.sheet.specs.own.Stands.{Begins, Blank, Ends, Opens, Stands}
-use Rattle.field.specs.own.Table.{Roomy, namesOf, Places}
+use Rattle.sheet.specs.own.Stands.{Begins, Ends, Opens, Stands, blankKept, keptTable, tooLong}
+use Rattle.field.specs.own.Table.{Tidy, conceptName, namesOf, numberCount, tableOf}
+use Rattle.field.specs.laws.Table.{listed-none}
 use Rattle.sheet.specs.laws.Stands.{begun-keeps, counts-of}
 
 -- ---- how it begins
@@ -29,28 +32,25 @@ zeroed-all s t z =
     ext-getD 0 t (replicate (length s) 0) (z .mapped .len ∙ sym (length-replicate (length s) 0))
     (λ i h. let g : i < length s = omega (arith, z .mapped .len) in z .mapped .inside i zero-le g ∙ sym (getD-replicate (length s) i 0 0 g))
 
-module _ (sheet : List ℕ) (k : Kept) (b : Blank k) where
-  blank-names : nothing .names ≡ namesOf sheet (k .table)
-  blank-names = rw (b .counts)
+-- numbers without names
+pub none-tidy : (sheet numbers : List ℕ) → length numbers ≡ numberCount → Tidy sheet (tableOf numbers (blankKept .counts))
+none-tidy sheet numbers h =
+    record {
+      long = h;
+      room = record { items = omega arith; concepts = omega arith; roles = omega arith };
+      proper = record { concepts = listed-none conceptName; roles = listed-none isName; items = listed-none isName };
+      hinted = record { concepts = λ w o. absurd (one-none o); roles = λ w o. absurd (one-none o); items = λ w o. absurd (one-none o) };
+    }
 
-  blank-room : Roomy (k .table)
-  blank-room = rw (b .counts) (record { items = omega arith; concepts = omega arith; roles = omega arith })
+pub blank-stands : (sheet numbers : List ℕ) → length numbers ≡ numberCount → Stands sheet (tableOf numbers (blankKept .counts)) (blankKept .marks) (replicate (size width) 0) nothing
+blank-stands sheet numbers h =
+    record { names = refl; marks = refl; tidy = none-tidy sheet numbers h; few = omega arith; long = length-replicate {A = ℕ} (size width) 0; store = refl }
 
-  pub blank-stands : (s t : List ℕ) → length s ≡ size width → Zeroed s t → Stands sheet (k .table) (k .marks) t nothing
-  blank-stands s t h z =
-      record {
-        names = blank-names;
-        marks = sym (b .marks);
-        room = blank-room;
-        few = rw (b .marks) (omega arith);
-        long = z .mapped .len ∙ h;
-        store = rw (b .marks) (zeroed-all s t z ∙ rw h);
-      }
-
-  -- a sheet that is too long
-  pub opens-long : (s : List ℕ) → sheetLimit < length sheet → Opens sheet s s (record { line = 0; why = 9; kept = k })
-  unfolding outcome
-  opens-long s h = record { said = nothing; names = blank-names; marks = sym (b .marks); room = blank-room; ends = rw (lt-leb _ _ h); leaves = refl; near = omega arith }
+-- a sheet that is too long
+pub opens-long : (sheet s numbers : List ℕ) → length numbers ≡ numberCount → sheetLimit < length sheet → Opens sheet s numbers s tooLong
+unfolding outcome
+opens-long sheet s numbers l h =
+    record { said = nothing; names = refl; marks = refl; tidy = none-tidy sheet numbers l; ends = rw (lt-leb _ _ h); leaves = refl; near = omega arith; start = λ z. absurd (omega arith) }
 
 -- ---- line 1
 
@@ -69,9 +69,10 @@ module _ (sheet : List ℕ) (e why : ℕ) (h : length sheet ≤ sheetLimit) (end
   header-stop z = lines-all ∙ rw (← fault, ne-eqb _ _ z)
 
 -- a faulty line 1
-pub ends-header : (sheet s : List ℕ) (k : Kept) (why : ℕ) → Stands sheet (k .table) (k .marks) s nothing → outcome sheet ≡ refused 1 why nothing → (why ≡ 0 → ⊥)
-    → Ends sheet (outcome sheet) s (record { line = 1; why = why; kept = k })
-ends-header sheet s k why st e z = record { said = nothing; stands = st; ends = e ∙ rw (ne-eqb _ _ z); near = omega arith; numbered = λ q. omega arith }
+pub ends-header : (sheet numbers s : List ℕ) (why : ℕ) (b : Start) → Stands sheet (tableOf numbers (blankKept .counts)) (blankKept .marks) s nothing → outcome sheet ≡ refused 1 why nothing → (why ≡ 0 → ⊥)
+    → Ends sheet (outcome sheet) numbers s (record { line = 1; why = why; kept = blankKept; start = b })
+ends-header sheet numbers s why b st e z =
+    record { said = nothing; stands = st; ends = e ∙ rw (ne-eqb _ _ z); near = omega arith; numbered = λ q. omega arith; start = λ q. absurd (z q) }
 
 -- ---- how it ends
 
@@ -79,29 +80,31 @@ leaves-line : (n k : ℕ) (x : Said) (s t : List ℕ) → 1 ≤ n → Stopped (b
 leaves-line zero k x s t h st = absurd (omega arith)
 leaves-line (suc n) k x s t h st = st
 
-module _ (sheet s t : List ℕ) (r : Ended) (e : Ends sheet (outcome sheet) t r) where
+module _ (sheet s numbers t : List ℕ) (r : Ended) (e : Ends sheet (outcome sheet) numbers t r) where
   -- at a faulty line
-  pub opens-stop : (r .why ≡ 0 → ⊥) → Opens sheet s t r
+  pub opens-stop : (r .why ≡ 0 → ⊥) → Opens sheet s numbers t r
   opens-stop z =
       record {
         said = e .said;
         names = e .stands .names;
         marks = e .stands .marks;
-        room = e .stands .room;
+        tidy = e .stands .tidy;
         ends = e .ends;
         leaves = rw (ne-eqb _ _ z) (leaves-line (r .line) (r .why) (e .said) s t (e .numbered z) (subst (λ (m : Marks). Stopped (begun m) (e .said) t) (sym (e .stands .marks)) (e .stands .store)));
         near = e .near;
+        start = e .start;
       }
 
   -- without one: the store is fresh at the latest now
-  pub opens-end : Places (r .kept .table) → r .why ≡ 0 → (u : List ℕ) → Begins (begun (r .kept .marks)) (r .kept .table .counts) t u → Opens sheet s u r
-  opens-end p z u b =
+  pub opens-end : r .why ≡ 0 → (u : List ℕ) → Begins (begun (r .kept .marks)) (r .kept .counts) t u → Opens sheet s numbers u r
+  opens-end z u b =
       record {
         said = e .said;
         names = e .stands .names;
         marks = e .stands .marks;
-        room = e .stands .room;
+        tidy = e .stands .tidy;
         ends = e .ends;
-        leaves = rw (eq-eqb _ _ z) (rw (e .stands .names, counts-of sheet (r .kept .table) p (e .stands .room)) (begun-keeps p (e .stands) b));
+        leaves = rw (eq-eqb _ _ z) (rw (e .stands .names, counts-of sheet (keptTable numbers r) (e .stands .tidy)) (begun-keeps (e .stands) b));
         near = e .near;
+        start = e .start;
       }

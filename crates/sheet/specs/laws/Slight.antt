@@ -55,7 +55,7 @@ module _ (k : ℕ) (x : Said) (fs : List Field) (s : Slight k x) where
   saying-slight form.Item a =
       let new = item-new (x .names) (at 0 fs) (right-first (x .names) due.NewItem [] fs refl (a .right) .0) in
       record {
-        names = all-last (λ (f : Field). length f ≤ nameLimit) [] (x .names .items) (at 0 fs) (omega arith) (name-bounds (at 0 fs) (new .0) .1) (s .names);
+        names = all-last (λ (f : Field). length f ≤ nameLimit) [] (x .names .items) (at 0 fs) (omega arith) (name-bounds (at 0 fs) (new .well) .1) (s .names);
         lines = λ i. let h = s .lines i in omega arith;
         few = s .few;
       }

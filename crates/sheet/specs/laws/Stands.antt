@@ -4,54 +4,44 @@ use mathlib.Core.Logic.{_⊎_, inl, inr}
 use mathlib.Core.Bool.{Bool, true, false, not, _||_, true≢false}
 use mathlib.Core.List.{List, [], _∷_, _++_, map}
 use Prim.Native.Nat.{ℕ, _+_, _<_}
-use native.Mathlib.Numerals.{add-one}
 use native.Mathlib.Omega.{arith}
 use borrow.Author.Tests.{lt-ltb}
 use lib.Dec.{ltb}
-use lib.ListN.{length, take, set, length-append}
-use lib.Seq.{take-suc-set}
+use lib.ListN.{length, length-append, replicate}
 use Rattle.logic.specs.Number.{One}
 use Rattle.logic.specs.Number.One.{first, later}
 use Rattle.logic.specs.laws.Number.{one-none}
-use Rattle.closure.specs.declared.Answer.{Answer}
 use Rattle.store.specs.declared.Counts.{Counts}
 use Rattle.store.specs.declared.Statement.{Statement}
 use Rattle.store.specs.Cell.{Cell, Nothing, With, cellOf}
 use Rattle.store.specs.Cell.With.{old, new}
-use Rattle.store.specs.Layout.{Holds, conceptLimit, itemLimit, roleLimit, width, Sized}
+use Rattle.store.specs.Layout.{Holds, size, width}
 use Rattle.closure.specs.Lines.{Stated}
 use Rattle.closure.specs.Lines.Stated.{stated}
 use Rattle.store.specs.Keeps.{Keeps}
-use Rattle.closure.specs.Promise.{Makes}
-use Rattle.closure.specs.Promise.Makes.{refused as make-refused, made}
-use Rattle.closure.specs.Refusal.{FreshFault}
-use Rattle.closure.specs.Refusal.FreshFault.{wrong-size}
 use Rattle.store.specs.laws.Keeps.{keeps-iff, keeps-step}
 use Rattle.field.specs.declared.Form.the-variants as form
 use Rattle.line.specs.declared.Marks.{Marks}
 use Rattle.field.specs.declared.RuleWord.{RuleWord}
 use Rattle.field.specs.declared.StatementWord.{StatementWord}
-use Rattle.field.specs.declared.Table.{Table}
 use Rattle.line.specs.Fault.{begun, none, ruleLimit}
-use Rattle.field.specs.Names.{countsOf}
+use Rattle.field.specs.Names.{Names, countsOf}
 use Rattle.sheet.specs.Promise.{Stopped}
 use Rattle.field.specs.Words.{at, Field}
 use Rattle.sheet.specs.Said.{Said, StatedIn, saying}
 use Rattle.saying.specs.Read.{statementOf}
 use Rattle.sheet.specs.own.Stands.{Begins, Stands}
-use Rattle.field.specs.own.Table.{Roomy, entered, nameAt, namesOf, withConcept, withItem, withRole, Places}
-use Rattle.field.specs.laws.Names.{entered-length}
+use Rattle.field.specs.own.Table.{Table, Tidy, itemsFrom, namesOf, rolesFrom, tableOf}
+use Rattle.field.specs.laws.Table.{entered-length}
+use Rattle.field.specs.laws.Declared.{DeclaredConcept, DeclaredItem, DeclaredRole, addConcept, addItem, addRole, moreConcepts, moreItems, moreRoles}
 use Rattle.sheet.specs.laws.Settled.{none-last}
 
 -- ---- the store
 
--- making a fresh store where there is room for it
-pub makes-keeps : {n : Counts} {s t : List ℕ} {r : Answer} → Sized width n s → Makes width n s t r → Keeps width n Nothing t
-makes-keeps z (made f k) = k
-makes-keeps {n} {s} z (make-refused l e) = absurd (no-fault (l .applies))
-  where
-    no-fault : {k : ℕ} → FreshFault width n s k → ⊥
-    no-fault (wrong-size f) = f z
+-- the words before the first statement or rule
+pub stopped-zero : (b : Bool) (x : Said) (s : List ℕ) → Stopped b x s → b ≡ false → s ≡ replicate (size width) 0
+stopped-zero true x s h e = absurd (true≢false e)
+stopped-zero false x s h e = h
 
 -- a fresh store holds what follows from no statement
 pub keeps-none : {n : Counts} {s : List ℕ} → Keeps width n Nothing s → Keeps width n (Stated []) s
@@ -110,17 +100,13 @@ map-last f (x ∷ xs) y = ap (_∷_ (f x)) (map-last f xs y)
 -- ---- tables
 
 -- the names are as many as the table counts
-pub counts-of : (sheet : List ℕ) (t : Table) → Places t → Roomy t → countsOf (namesOf sheet t) ≡ t .counts
-counts-of sheet t p r =
+pub counts-of : (sheet : List ℕ) (t : Table) → Tidy sheet t → countsOf (namesOf sheet t) ≡ t .counts
+counts-of sheet t y =
     rw (
-      entered-length sheet (t .counts .items) (t .items) (omega (arith, p .items, r .items)),
-      entered-length sheet (t .counts .concepts) (t .concepts) (omega (arith, p .concepts, r .concepts)),
-      entered-length sheet (t .counts .roles) (t .roles) (omega (arith, p .roles, r .roles)),
+      entered-length sheet (t .numbers) itemsFrom (t .counts .items) (omega (arith, y .long, y .room .items)),
+      entered-length sheet (t .numbers) 0 (t .counts .concepts) (omega (arith, y .long, y .room .concepts)),
+      entered-length sheet (t .numbers) rolesFrom (t .counts .roles) (omega (arith, y .long, y .room .roles)),
     )
-
--- one entry more is one name more
-entered-more : (sheet : List ℕ) (n : ℕ) (entries : List ℕ) (p : ℕ) → n < length entries → entered sheet (n + 1) (set entries n p) ≡ entered sheet n entries ++ nameAt sheet p ∷ []
-entered-more sheet n entries p h = rw (add-one, take-suc-set entries n p h) (map-last (nameAt sheet) (take n entries) p)
 
 -- ---- what stands for what was said, after one line more
 
@@ -135,9 +121,9 @@ not-begun m e = go (m .stated) e
     go true q = q
     go false q = refl
 
-module _ {sheet : List ℕ} {t : Table} {m : Marks} {s : List ℕ} {x : Said} (places : Places t) (st : Stands sheet t m s x) where
+module _ {sheet : List ℕ} {t : Table} {m : Marks} {s : List ℕ} {x : Said} (st : Stands sheet t m s x) where
   counted : countsOf (x .names) ≡ t .counts
-  counted = rw (st .names) (counts-of sheet t places (st .room))
+  counted = rw (st .names) (counts-of sheet t (st .tidy))
 
   no-statements : begun m ≡ false → x .statements ≡ []
   no-statements e = none-nil (x .statements) (flip (none (x .statements)) (ap (λ (n : Marks). n .stated) (st .marks) ∙ not-begun m e))
@@ -161,7 +147,7 @@ module _ {sheet : List ℕ} {t : Table} {m : Marks} {s : List ℕ} {x : Said} (p
       record {
         names = st .names;
         marks = rw (none-last (x .statements) (record { line = k; statement = statementOf (x .names) w fs }), ap (λ (n : Marks). n .rules) (st .marks));
-        room = st .room;
+        tidy = st .tidy;
         few = st .few;
         long = kept .store .long;
         store = rw (counted, st .names, map-last) (keeps-more (statementOf (namesOf sheet t) w fs) (begun-keeps b) kept);
@@ -173,7 +159,7 @@ module _ {sheet : List ℕ} {t : Table} {m : Marks} {s : List ℕ} {x : Said} (p
       record {
         names = st .names;
         marks = rw (ap (λ (n : Marks). n .stated) (st .marks), length-append) (rw (ap (λ (n : Marks). n .rules) (st .marks)));
-        room = st .room;
+        tidy = st .tidy;
         few = omega arith;
         long = begun-keeps b .store .long;
         store = on (m .stated || ltb 0 (m .rules + 1)) (either (m .stated));
@@ -195,36 +181,16 @@ module _ {sheet : List ℕ} {t : Table} {m : Marks} {s : List ℕ} {x : Said} (p
       go true q h = absurd (true≢false q)
       go false q h = h
 
-  module _ (k : ℕ) (fs : List Field) (p : ℕ) (is : nameAt sheet p ≡ at 0 fs) (e : begun m ≡ false) where
-    pub stands-concept : t .counts .concepts < conceptLimit → Stands sheet (withConcept t p) m s (saying k x form.Concept fs)
-    stands-concept h =
-        record {
-          names = rw (entered-more sheet (t .counts .concepts) (t .concepts) p (omega (arith, places .concepts)), is, st .names);
-          marks = st .marks;
-          room = record { items = st .room .items; concepts = omega arith; roles = st .room .roles };
-          few = st .few;
-          long = st .long;
-          store = untouched (saying k x form.Concept fs) e;
-        }
+  -- after a declaration: the names and the numbers with one more
+  module _ (k : ℕ) (fs : List Field) (e : begun m ≡ false) where
+    pub stands-concept : {numbers : List ℕ} → DeclaredConcept sheet t (at 0 fs) numbers → Stands sheet (tableOf numbers (moreConcepts (t .counts))) m s (saying k x form.Concept fs)
+    stands-concept d =
+        record { names = ap (λ (n : Names). addConcept n (at 0 fs)) (st .names) ∙ sym (d .names); marks = st .marks; tidy = d .tidy; few = st .few; long = st .long; store = untouched (saying k x form.Concept fs) e }
 
-    pub stands-role : t .counts .roles < roleLimit → Stands sheet (withRole t p) m s (saying k x form.Role fs)
-    stands-role h =
-        record {
-          names = rw (entered-more sheet (t .counts .roles) (t .roles) p (omega (arith, places .roles)), is, st .names);
-          marks = st .marks;
-          room = record { items = st .room .items; concepts = st .room .concepts; roles = omega arith };
-          few = st .few;
-          long = st .long;
-          store = untouched (saying k x form.Role fs) e;
-        }
+    pub stands-role : {numbers : List ℕ} → DeclaredRole sheet t (at 0 fs) numbers → Stands sheet (tableOf numbers (moreRoles (t .counts))) m s (saying k x form.Role fs)
+    stands-role d =
+        record { names = ap (λ (n : Names). addRole n (at 0 fs)) (st .names) ∙ sym (d .names); marks = st .marks; tidy = d .tidy; few = st .few; long = st .long; store = untouched (saying k x form.Role fs) e }
 
-    pub stands-item : t .counts .items < itemLimit width → Stands sheet (withItem t p) m s (saying k x form.Item fs)
-    stands-item h =
-        record {
-          names = rw (entered-more sheet (t .counts .items) (t .items) p (omega (arith, places .items)), is, st .names);
-          marks = st .marks;
-          room = record { items = omega arith; concepts = st .room .concepts; roles = st .room .roles };
-          few = st .few;
-          long = st .long;
-          store = untouched (saying k x form.Item fs) e;
-        }
+    pub stands-item : {numbers : List ℕ} → DeclaredItem sheet t (at 0 fs) numbers → Stands sheet (tableOf numbers (moreItems (t .counts))) m s (saying k x form.Item fs)
+    stands-item d =
+        record { names = ap (λ (n : Names). addItem n (at 0 fs)) (st .names) ∙ sym (d .names); marks = st .marks; tidy = d .tidy; few = st .few; long = st .long; store = untouched (saying k x form.Item fs) e }

@@ -1,18 +1,21 @@
 -- Laws of taking a line without a fault. Assumes nothing.
-use mathlib.Core.Path.{_≡_, refl, _∙_, subst}
-use mathlib.Core.Bool.{true, false}
+use mathlib.Core.Path.{_≡_, refl, sym, ap, _∙_, subst}
+use mathlib.Core.Bool.{true, false, true≢false}
 use mathlib.Core.List.{List, [], _∷_}
 use Prim.Native.Nat.{ℕ, _+_, _≤_, _<_}
 use native.Mathlib.Omega.{arith}
 use borrow.Author.Tests.{leb-false}
-use lib.ListN.{length}
-use Rattle.text.specs.Name.{isName, nameLimit}
-use Rattle.text.specs.own.Split.{fieldFrom, partsFrom}
+use lib.ListN.{length, drop}
+use lib.Seq.{getD-drop}
+use Rattle.text.specs.Name.{isName}
 use Rattle.text.specs.Split.{fields}
+use Rattle.text.specs.own.Scan.{startBy}
+use Rattle.text.specs.laws.Ends.{field-length, field-text, line-inside, room-between}
+use Rattle.text.specs.laws.Name.{name-bounds}
+use Rattle.text.specs.laws.Split.{end-le}
 use Rattle.store.specs.Cell.{Within, cellOf}
 use Rattle.store.specs.Layout.{conceptLimit, itemLimit, roleLimit, width}
 use Rattle.store.specs.declared.Counts.{Counts}
-use Rattle.text.specs.laws.Name.{name-bounds}
 use Rattle.field.specs.declared.Due.{Due}
 use Rattle.field.specs.declared.Due.the-variants as due
 use Rattle.field.specs.declared.Form.{Form}
@@ -20,22 +23,28 @@ use Rattle.field.specs.declared.Form.the-variants as form
 use Rattle.line.specs.declared.Marks.{Marks}
 use Rattle.field.specs.declared.RuleWord.{RuleWord}
 use Rattle.field.specs.declared.StatementWord.{StatementWord}
-use Rattle.field.specs.declared.Table.{Table}
 use Rattle.field.specs.Due.{dues, isExpr, lineupOf}
-use Rattle.line.specs.Fault.{begun, lineLimit, none, ruleLimit}
-use Rattle.field.specs.Names.{fieldFault}
-use Rattle.field.specs.Words.{at, bodyOf, formOf}
+use Rattle.line.specs.Fault.{begun, lineFault, lineLimit, none, ruleLimit}
+use Rattle.field.specs.Names.{Names, fieldFault}
+use Rattle.field.specs.Words.{at, Field, bodyOf, formOf}
 use Rattle.sheet.specs.Said.{Said, lineSaid, saying}
 use Rattle.saying.specs.Read.{statementOf}
-use Rattle.sheet.specs.own.Stands.{Begins, Stands, Takes}
-use Rattle.field.specs.own.Table.{Roomy, entryOf, nameAt, namesOf, placeCount, withConcept, withItem, withRole, Places}
+use Rattle.sheet.specs.own.Stands.{Begins, Declaration, Stands, Takes}
+use Rattle.field.specs.own.Line.{Looked, wordsOf}
+use Rattle.field.specs.own.Table.{Noted, Table, Tidy, conceptName, entryOf, hintAt, itemsFrom, nameAt, namesOf, placeCount, rolesFrom, tableOf}
 use Rattle.line.specs.laws.Accepted.{Accepted, line-accepted}
-use Rattle.field.specs.laws.Right.{concept-new, item-new, right-first, role-new}
+use Rattle.field.specs.laws.Declared.{declared-concept, declared-item, declared-role, moreConcepts, moreItems, moreRoles}
+use Rattle.field.specs.laws.Right.{New, concept-name-good, concept-new, item-new, right-first, role-new}
 use Rattle.saying.specs.laws.Stated.{statement-within}
-use Rattle.field.specs.laws.Entry.{entry-name, name-inside}
-use Rattle.saying.specs.laws.Fields.{nth-first}
-use Rattle.field.specs.laws.Names.{entered-length}
+use Rattle.field.specs.laws.Entry.{entry-name}
+use Rattle.field.specs.laws.Table.{entered-length}
+use Rattle.field.specs.laws.Words.{body-words}
 use Rattle.sheet.specs.laws.Stands.{counts-of, stands-concept, stands-item, stands-role, stands-rule}
+
+-- a line without a fault is not too long
+pub right-short : (n : Names) (m : Marks) (l : List ℕ) → lineFault n m l ≡ 0 → length l ≤ lineLimit
+right-short n m [] e = omega arith
+right-short n m (b ∷ l) e = line-accepted n m (b ∷ l) refl e .0
 
 -- an empty line says nothing
 pub said-empty : (k : ℕ) (x : Said) (line : List ℕ) → length line ≡ 0 → lineSaid k x line ≡ x
@@ -47,96 +56,136 @@ pub some-line : (line : List ℕ) → (length line ≡ 0 → ⊥) → none line 
 some-line [] h = absurd (h refl)
 some-line (b ∷ line) h = refl
 
--- a line that is not empty, without a fault; its form is f, and its body begins at `from`
-module _ {sheet : List ℕ} {t : Table} {m : Marks} {s : List ℕ} {start : ℕ} {line : List ℕ} (places : Places t) (tk : Takes sheet t m s start line) (some : none line ≡ false)
-    (f : Form) (from : ℕ) (is : f ≡ formOf (fields line)) (rest : partsFrom 9 line from ≡ bodyOf (fields line)) where
-  said-by : (k : ℕ) (x : Said) → lineSaid k x line ≡ saying k x f (partsFrom 9 line from)
+-- its bytes have places that an entry can tell
+pub line-near : {sheet : List ℕ} {t : Table} {m : Marks} {s : List ℕ} {start : ℕ} {line : List ℕ} → Takes sheet t m s start line → start + length line < placeCount
+line-near {sheet} {start = start} tk = omega (arith, ap length (tk .is), line-inside sheet start (tk .inside), end-le 10 sheet start (tk .inside), tk .short)
+
+-- a line that is not empty, without a fault; its form is f
+module _ {sheet : List ℕ} {t : Table} {m : Marks} {s : List ℕ} {start : ℕ} {line : List ℕ} (tk : Takes sheet t m s start line) (some : none line ≡ false) (f : Form) (is : f ≡ formOf (fields line)) where
+  said-by : (k : ℕ) (x : Said) → lineSaid k x line ≡ saying k x f (bodyOf (fields line))
   unfolding lineSaid
-  said-by k x = rw (some, is, rest)
+  said-by k x = rw (some, is)
 
   -- what is shown of what its form says holds of what the line says
-  pub by-form : {t′ : Table} {m′ : Marks} {s′ : List ℕ} (k : ℕ) (x : Said) → Stands sheet t′ m′ s′ (saying k x f (partsFrom 9 line from)) → Stands sheet t′ m′ s′ (lineSaid k x line)
+  by-form : {t′ : Table} {m′ : Marks} {s′ : List ℕ} (k : ℕ) (x : Said) → Stands sheet t′ m′ s′ (saying k x f (bodyOf (fields line))) → Stands sheet t′ m′ s′ (lineSaid k x line)
   by-form k x h = rw (said-by k x) h
 
-  accepted : Accepted (namesOf sheet t) m f (partsFrom 9 line from)
-  accepted = rw (is, rest) (line-accepted (namesOf sheet t) m line some (tk .right) .1)
+  accepted : Accepted (namesOf sheet t) m f (bodyOf (fields line))
+  accepted = rw is (line-accepted (namesOf sheet t) m line some (tk .right) .1)
 
-  pub short : length line ≤ lineLimit
-  short = line-accepted (namesOf sheet t) m line some (tk .right) .0
+  known : formOf (fields line) ≡ form.Unknown → ⊥
+  known e = true≢false (rw (is ∙ e) at (accepted .known))
 
-  -- the name of a declaration
-  module _ (d : Due) (one : dues (lineupOf f (length (partsFrom 9 line from))) ≡ d ∷ []) (plain : isExpr d ≡ false) where
-    new-fault : fieldFault (namesOf sheet t) d (fieldFrom line from) ≡ 0
-    new-fault = rw (nth-first line from 0 (omega arith)) (right-first (namesOf sheet t) d [] (partsFrom 9 line from) plain (rw one at (accepted .right)) .0)
+  -- its fields after its words
+  after-words : drop (wordsOf f) (fields line) ≡ bodyOf (fields line)
+  after-words = rw is (body-words (fields line) known)
+
+  tidy : Tidy sheet t
+  tidy = tk .stands .tidy
+
+  -- ---- declarations: one word, and one name
+
+  module _ (one-word : wordsOf f ≡ 1) (d : Due) (one : dues (lineupOf f (length (bodyOf (fields line)))) ≡ d ∷ []) (plain : isExpr d ≡ false) where
+    named-at : at 0 (bodyOf (fields line)) ≡ at 1 (fields line)
+    named-at = ap (at 0) (sym after-words) ∙ ap (λ (k : ℕ). at 0 (drop k (fields line))) one-word ∙ getD-drop 1 (fields line) 0 []
+
+    new-fault : fieldFault (namesOf sheet t) d (at 1 (fields line)) ≡ 0
+    new-fault = rw (← named-at) (right-first (namesOf sheet t) d [] (bodyOf (fields line)) plain (rw one at (accepted .right)) .0)
+
+  -- a second field that is a name is there
+  declaration : isName (at 1 (fields line)) ≡ true → Declaration line
+  declaration good = record { two = go (fields line) (name-bounds (at 1 (fields line)) good .0); named = good }
+    where
+      go : (fs : List Field) → 1 ≤ length (at 1 fs) → 2 ≤ length fs
+      go [] h = absurd (omega arith)
+      go (w ∷ []) h = absurd (omega arith)
+      go (w ∷ v ∷ fs) h = omega arith
 
   -- its entry
-  module _ (good : isName (fieldFrom line from) ≡ true) where
-    entry-ready : (start + from < placeCount) × (length (fieldFrom line from) ≤ nameLimit)
-    entry-ready = (omega (arith, tk .near, name-inside line from good, short), name-bounds (fieldFrom line from) good .1)
-
-    entry-is : (p : ℕ) → p ≡ entryOf (fieldFrom line from) (start + from) → nameAt sheet p ≡ at 0 (partsFrom 9 line from)
-    entry-is p e = entry-name line from good sheet start p (entry-ready .0) (tk .inside) e ∙ nth-first line from 0 (omega arith)
-
-  room : Roomy t
-  room = tk .stands .room
+  entry-is : (ends : List ℕ) → Looked line ends → isName (at 1 (fields line)) ≡ true → nameAt sheet (entryOf (at 1 (fields line)) (start + startBy 0 ends 1)) ≡ at 1 (fields line)
+  entry-is ends v good =
+      let two = declaration good .two in
+      let inside : startBy 0 ends 1 + length (at 1 (fields line)) ≤ length line = omega (arith, field-length line ends (v .ended) 1 (omega arith) (omega (arith, v .count)), room-between line ends (v .ended) 1 (omega arith) (omega (arith, v .count)) .high) in
+      let long : start + length line ≤ length sheet = omega (arith, ap length (tk .is), line-inside sheet start (tk .inside), end-le 10 sheet start (tk .inside)) in
+      entry-name sheet (at 1 (fields line)) (start + startBy 0 ends 1) good (omega (arith, name-bounds (at 1 (fields line)) good .0, tk .short))
+      (rw (← tk .is) at (field-text sheet start ends (tk .inside) (rw (tk .is) at (v .ended)) 1 (rw (← tk .is) (omega arith)) (omega (arith, v .count))))
 
   module _ (told : f ≡ form.Concept) where
-    concept-name : (isName (fieldFrom line from) ≡ true) × (length (namesOf sheet t .concepts) < conceptLimit)
-    concept-name = concept-new (namesOf sheet t) (fieldFrom line from) (new-fault due.NewConcept (rw told) refl)
+    concept-name : New conceptName conceptLimit (namesOf sheet t .concepts) (at 1 (fields line))
+    concept-name = concept-new (namesOf sheet t) (at 1 (fields line)) (new-fault (rw told) due.NewConcept (rw told) refl)
 
-    pub concept-entry : (start + from < placeCount) × (length (fieldFrom line from) ≤ nameLimit)
-    concept-entry = entry-ready (concept-name .0)
+    pub concept-declared : Declaration line
+    concept-declared = declaration (concept-name-good (at 1 (fields line)) (concept-name .well) .0)
 
     pub concept-room : t .counts .concepts < conceptLimit
-    concept-room = omega (arith, concept-name .1, entered-length sheet (t .counts .concepts) (t .concepts) (omega (arith, places .concepts, room .concepts)))
+    concept-room = omega (arith, concept-name .few, entered-length sheet (t .numbers) 0 (t .counts .concepts) (omega (arith, tidy .long, tidy .room .concepts)))
 
-    pub concept-taken : (p : ℕ) → p ≡ entryOf (fieldFrom line from) (start + from) → (k : ℕ) (x : Said) → Stands sheet t m s x → Stands sheet (withConcept t p) m s (lineSaid k x line)
-    concept-taken p e k x st = by-form k x (rw told (stands-concept places st k (partsFrom 9 line from) p (entry-is (concept-name .0) p e) (rw told at (accepted .started)) concept-room))
+    pub concept-taken : (ends numbers : List ℕ) → Looked line ends → Noted (t .numbers) (t .counts .concepts) (entryOf (at 1 (fields line)) (start + startBy 0 ends 1)) (hintAt 0 (at 1 (fields line))) numbers → (k : ℕ) (x : Said) → Stands sheet t m s x
+        → Stands sheet (tableOf numbers (moreConcepts (t .counts))) m s (lineSaid k x line)
+    concept-taken ends numbers v noted k x st =
+        by-form k x
+        (rw told
+        (stands-concept st k (bodyOf (fields line)) (rw told at (accepted .started))
+        (rw (named-at (rw told) due.NewConcept (rw told) refl) (declared-concept tidy (at 1 (fields line)) _ (entry-is ends v (concept-name-good (at 1 (fields line)) (concept-name .well) .0)) noted concept-name))))
 
   module _ (told : f ≡ form.Role) where
-    role-name : (isName (fieldFrom line from) ≡ true) × (length (namesOf sheet t .roles) < roleLimit)
-    role-name = role-new (namesOf sheet t) (fieldFrom line from) (new-fault due.NewRole (rw told) refl)
+    role-name : New isName roleLimit (namesOf sheet t .roles) (at 1 (fields line))
+    role-name = role-new (namesOf sheet t) (at 1 (fields line)) (new-fault (rw told) due.NewRole (rw told) refl)
 
-    pub role-entry : (start + from < placeCount) × (length (fieldFrom line from) ≤ nameLimit)
-    role-entry = entry-ready (role-name .0)
+    pub role-declared : Declaration line
+    role-declared = declaration (role-name .well)
 
     pub role-room : t .counts .roles < roleLimit
-    role-room = omega (arith, role-name .1, entered-length sheet (t .counts .roles) (t .roles) (omega (arith, places .roles, room .roles)))
+    role-room = omega (arith, role-name .few, entered-length sheet (t .numbers) rolesFrom (t .counts .roles) (omega (arith, tidy .long, tidy .room .roles)))
 
-    pub role-taken : (p : ℕ) → p ≡ entryOf (fieldFrom line from) (start + from) → (k : ℕ) (x : Said) → Stands sheet t m s x → Stands sheet (withRole t p) m s (lineSaid k x line)
-    role-taken p e k x st = by-form k x (rw told (stands-role places st k (partsFrom 9 line from) p (entry-is (role-name .0) p e) (rw told at (accepted .started)) role-room))
+    pub role-taken : (ends numbers : List ℕ) → Looked line ends → Noted (t .numbers) (rolesFrom + t .counts .roles) (entryOf (at 1 (fields line)) (start + startBy 0 ends 1)) (hintAt rolesFrom (at 1 (fields line))) numbers → (k : ℕ) (x : Said) → Stands sheet t m s x
+        → Stands sheet (tableOf numbers (moreRoles (t .counts))) m s (lineSaid k x line)
+    role-taken ends numbers v noted k x st =
+        by-form k x
+        (rw told
+        (stands-role st k (bodyOf (fields line)) (rw told at (accepted .started))
+        (rw (named-at (rw told) due.NewRole (rw told) refl) (declared-role tidy (at 1 (fields line)) _ (entry-is ends v (role-name .well)) noted role-name))))
 
   module _ (told : f ≡ form.Item) where
-    item-name : (isName (fieldFrom line from) ≡ true) × (length (namesOf sheet t .items) < itemLimit width)
-    item-name = item-new (namesOf sheet t) (fieldFrom line from) (new-fault due.NewItem (rw told) refl)
+    item-name : New isName (itemLimit width) (namesOf sheet t .items) (at 1 (fields line))
+    item-name = item-new (namesOf sheet t) (at 1 (fields line)) (new-fault (rw told) due.NewItem (rw told) refl)
 
-    pub item-entry : (start + from < placeCount) × (length (fieldFrom line from) ≤ nameLimit)
-    item-entry = entry-ready (item-name .0)
+    pub item-declared : Declaration line
+    item-declared = declaration (item-name .well)
 
-    pub item-room : t .counts .items < itemLimit width
-    item-room = omega (arith, item-name .1, entered-length sheet (t .counts .items) (t .items) (omega (arith, places .items, room .items)))
+    pub item-room : t .counts .items < (itemLimit width)
+    item-room = omega (arith, item-name .few, entered-length sheet (t .numbers) itemsFrom (t .counts .items) (omega (arith, tidy .long, tidy .room .items)))
 
-    pub item-taken : (p : ℕ) → p ≡ entryOf (fieldFrom line from) (start + from) → (k : ℕ) (x : Said) → Stands sheet t m s x → Stands sheet (withItem t p) m s (lineSaid k x line)
-    item-taken p e k x st = by-form k x (rw told (stands-item places st k (partsFrom 9 line from) p (entry-is (item-name .0) p e) (rw told at (accepted .started)) item-room))
+    pub item-taken : (ends numbers : List ℕ) → Looked line ends → Noted (t .numbers) (itemsFrom + t .counts .items) (entryOf (at 1 (fields line)) (start + startBy 0 ends 1)) (hintAt itemsFrom (at 1 (fields line))) numbers → (k : ℕ) (x : Said) → Stands sheet t m s x
+        → Stands sheet (tableOf numbers (moreItems (t .counts))) m s (lineSaid k x line)
+    item-taken ends numbers v noted k x st =
+        by-form k x
+        (rw told
+        (stands-item st k (bodyOf (fields line)) (rw told at (accepted .started))
+        (rw (named-at (rw told) due.NewItem (rw told) refl) (declared-item tidy (at 1 (fields line)) _ (entry-is ends v (item-name .well)) noted item-name))))
+
+  -- ---- the lines that are no declarations
+
+  statement-body : (w : StatementWord) → f ≡ form.Statement w → drop 1 (fields line) ≡ bodyOf (fields line)
+  statement-body w told = rw told at after-words
 
   -- the numbers of a statement
-  pub statement-inside : (w : StatementWord) → f ≡ form.Statement w → Within (t .counts) (cellOf (statementOf (namesOf sheet t) w (partsFrom 9 line from)))
+  pub statement-inside : (w : StatementWord) → f ≡ form.Statement w → Within (t .counts) (cellOf (statementOf (namesOf sheet t) w (drop 1 (fields line))))
   statement-inside w told =
-      subst (λ (n : Counts). Within n (cellOf (statementOf (namesOf sheet t) w (partsFrom 9 line from)))) (counts-of sheet t places room)
-      (statement-within (namesOf sheet t) w (partsFrom 9 line from) (rw told at (accepted .right)))
+      subst (λ (n : Counts). Within n (cellOf (statementOf (namesOf sheet t) w (drop 1 (fields line))))) (counts-of sheet t tidy)
+      (statement-within (namesOf sheet t) w (drop 1 (fields line)) (rw (statement-body w told) (rw told at (accepted .right))))
 
   -- a rule for which there is room
   pub rule-room : (w : RuleWord) → f ≡ form.Rule w → m .rules < ruleLimit
   rule-room w told = leb-false ruleLimit (m .rules) (rw told at (accepted .room))
 
-  -- the lines that are no declarations
   pub statement-taken : (w : StatementWord) → f ≡ form.Statement w → {t′ : Table} {m′ : Marks} {s′ : List ℕ}
-      → ((k : ℕ) (x : Said) → Stands sheet t m s x → Stands sheet t′ m′ s′ (saying k x (form.Statement w) (partsFrom 9 line from))) → (k : ℕ) (x : Said) → Stands sheet t m s x → Stands sheet t′ m′ s′ (lineSaid k x line)
-  statement-taken w told h k x st = by-form k x (rw told (h k x st))
+      → ((k : ℕ) (x : Said) → Stands sheet t m s x → Stands sheet t′ m′ s′ (saying k x (form.Statement w) (drop 1 (fields line)))) → (k : ℕ) (x : Said) → Stands sheet t m s x → Stands sheet t′ m′ s′ (lineSaid k x line)
+  statement-taken w told h k x st = by-form k x (rw told (rw (statement-body w told) at (h k x st)))
 
   pub rule-taken : (w : RuleWord) → f ≡ form.Rule w → {s1 : List ℕ} → Begins (begun m) (t .counts) s s1 → (k : ℕ) (x : Said) → Stands sheet t m s x
       → Stands sheet t (record { stated = m .stated; rules = m .rules + 1 }) s1 (lineSaid k x line)
-  rule-taken w told h k x st = by-form k x (rw told (stands-rule places st k w (partsFrom 9 line from) (rule-room w told) h))
+  rule-taken w told h k x st = by-form k x (rw told (stands-rule st k w (bodyOf (fields line)) (rule-room w told) h))
 
   pub bare-taken : f ≡ form.Bare → (k : ℕ) (x : Said) → Stands sheet t m s x → Stands sheet t m s (lineSaid k x line)
   bare-taken told k x st = by-form k x (rw told st)

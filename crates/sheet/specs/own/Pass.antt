@@ -14,7 +14,7 @@ use Rattle.field.specs.declared.Form.{Form}
 use Rattle.field.specs.declared.Form.the-variants as form
 use Rattle.sheet.specs.declared.RuleLine.{RuleLine}
 use Rattle.field.specs.declared.RuleWord.{RuleWord}
-use Rattle.field.specs.declared.Table.{Table}
+use Rattle.sheet.specs.declared.Start.{Start}
 use Rattle.sheet.specs.declared.Whole.{Whole}
 use Rattle.line.specs.Fault.{sheetLimit}
 use Rattle.field.specs.Names.{Names, countsOf}
@@ -23,7 +23,8 @@ use Rattle.sheet.specs.Promise.{FindingsFrom, Reads}
 use Rattle.saying.specs.Read.{ruleOf}
 use Rattle.sheet.specs.Said.{Said, SheetRule, outcome, outcomeFrom}
 use Rattle.sheet.specs.Said.Outcome.{accepted}
-use Rattle.field.specs.own.Table.{Roomy, namesOf}
+use Rattle.field.specs.own.Table.{Table, Tidy, namesOf, tableOf}
+use Rattle.sheet.specs.own.Stands.{Beginning}
 use Rattle.field.specs.Words.{Field, bodyOf, formOf}
 
 -- the line of a rule has the fields that are due
@@ -95,7 +96,7 @@ pub record Counted (x : Said) (t : List ℕ) (done : List SheetRule) (total : �
 
 -- the sheet with the names of the table t is accepted, and the words s are a closed store for them
 pub record Judges (sheet : List ℕ) (t : Table) (s : List ℕ) : Type 0 where
-  pub room : Roomy t
+  pub tidy : Tidy sheet t
   pub sheetSaid : Accepts sheet t
   pub store : ClosedStore width (t .counts) s
 
@@ -103,8 +104,13 @@ pub record Judges (sheet : List ℕ) (t : Table) (s : List ℕ) : Type 0 where
 abbrev pub Totalled : List ℕ → Table → List ℕ → ℕ → Type 0
 Totalled sheet t s r = (x : Said) → outcome sheet ≡ accepted x → x .names ≡ namesOf sheet t → Counted x s (x .rules) r
 
--- a sheet was read into the store s, which became t: the answer, and the table of the names if it was accepted
-pub record Wholly (sheet s t : List ℕ) (r : Whole) : Type 0 where
+-- the rules of the sheet begin at a place, or after it
+abbrev pub Since : List ℕ → Start → Type 0
+Since sheet b = Beginning sheet (outcome sheet) b
+
+-- a sheet was read into the store s, which became t: the answer, the table of the names, and where the rules begin, if it was accepted
+pub record Wholly (sheet s t numbers : List ℕ) (r : Whole) : Type 0 where
   pub reads : Reads sheet s t (r .answer)
-  pub room : Roomy (r .table)
-  pub names : (x : Said) → length s ≡ size width → outcome sheet ≡ accepted x → x .names ≡ namesOf sheet (r .table)
+  pub tidy : Tidy sheet (tableOf numbers (r .counts))
+  pub names : (x : Said) → length s ≡ size width → outcome sheet ≡ accepted x → x .names ≡ namesOf sheet (tableOf numbers (r .counts))
+  pub start : (x : Said) → length s ≡ size width → outcome sheet ≡ accepted x → Since sheet (r .start)

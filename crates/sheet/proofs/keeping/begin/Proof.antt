@@ -1,8 +1,7 @@
 -- `sheet::keeping::begin` meets its contract. Assumes nothing.
 use mathlib.Core.Path.{sym, _∙_}
-use Rattle.store.specs.Layout.{width, Sized}
 use Rattle.line.specs.Fault.{begun}
-use Rattle.sheet.specs.laws.Stands.{begins-fresh, begins-same, makes-keeps}
+use Rattle.sheet.specs.laws.Stands.{begins-fresh, begins-same}
 use borrow.Author.Needs.{needs}
 use Rattle.sheet.proofs.keeping.begin.Statement.{statement}
 use Rattle.sheet.proofs.keeping.begin.Tie as tie
@@ -13,16 +12,14 @@ begun-requires c κs = search needs
 returns : tie.Need-returns
 returns c = begins-same (begun (c .before .before .before .args .m)) _ _ (sym (c .before .begun .ensures) ∙ c .if1 .taken)
 
-fresh-requires : tie.Need-fresh-requires
-fresh-requires c κs = search needs
+begin-requires : tie.Need-begin-requires
+begin-requires c κs = (c .before .before .before .before .pre .0 (sym (c .before .before .begun .ensures) ∙ c .before .if1 .left), c .before .before .before .before .pre .1)
 
 same-length : tie.Need-same-length
 same-length c = search needs
 
 returns-2 : tie.Need-returns-2
-returns-2 c =
-    let z : Sized width (c .before .before .before .before .before .before .before .args .counts) (c .before .before .before .before .before .before .before .args .words .now) = record { long = c .before .before .before .before .before .before .before .pre .0; fits = c .before .before .before .before .before .before .before .pre .1 } in
-    begins-fresh (begun (c .before .before .before .before .before .before .before .args .m)) _ _ _ (sym (c .before .before .before .before .before .begun .ensures) ∙ c .before .before .before .before .if1 .left) (makes-keeps z (c .before .before .fresh .ensures))
+returns-2 c = begins-fresh (begun (c .before .before .before .before .before .before .before .args .m)) _ _ _ (sym (c .before .before .before .before .before .begun .ensures) ∙ c .before .before .before .before .if1 .left) (c .before .before .begin .ensures)
 
 pub begin-spec : {M : Type 1} → statement M
-begin-spec = tie.close (tie.spec begun-requires returns fresh-requires same-length returns-2)
+begin-spec = tie.close (tie.spec begun-requires returns begin-requires same-length returns-2)

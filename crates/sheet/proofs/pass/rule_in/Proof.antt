@@ -1,6 +1,8 @@
 -- `sheet::pass::rule_in` meets its contract. Assumes nothing.
 use mathlib.Core.Path.{sym, _∙_}
+use native.Mathlib.Omega.{arith}
 use borrow.Author.Needs.{needs}
+use Rattle.sheet.specs.laws.Pass.{rule-body}
 use Rattle.sheet.proofs.pass.rule_in.Statement.{statement}
 use Rattle.sheet.proofs.pass.rule_in.Tie as tie
 
@@ -34,11 +36,10 @@ no-rule-requires-4 c κs = search needs
 enum-known-f : tie.Need-enum-known-f
 enum-known-f c = search needs
 
-body-requires : tie.Need-body-requires
-body-requires c κs = search needs
-
 rule-of-requires : tie.Need-rule-of-requires
-rule-of-requires c κs = ((c .before .before .before .before .before .before .before .pre .0), rw (c .body .ensures) ((c .before .before .before .before .before .before .before .pre .1) _ (sym (c .before .before .before .before .form .ensures) ∙ (c .before .before .f .given .1))))
+rule-of-requires c κs =
+    let f = sym (c .before .before .before .form .ensures) ∙ c .before .f .given .1 in
+    (c .before .before .before .before .before .before .before .before .pre .0, c .before .before .before .before .before .before .before .before .pre .1, omega arith, rw (rule-body _ _ f) (c .before .before .before .before .before .before .before .before .pre .2 _ f))
 
 enum-told-5 : tie.Need-enum-told-5
 enum-told-5 c = search needs
@@ -65,7 +66,7 @@ returns-4 : tie.Need-returns-4
 returns-4 c = rw (sym (c .before .before .before .form .ensures) ∙ (c .before .enum-told4 .given .1)) (c .no-rule4 .ensures .0)
 
 returns-5 : tie.Need-returns-5
-returns-5 c = rw (sym (c .before .before .before .before .before .form .ensures) ∙ (c .before .before .before .f .given .1), (c .rule-of .ensures), (c .before .body .ensures))
+returns-5 c = rw (sym (c .before .before .before .before .form .ensures) ∙ (c .before .before .f .given .1), c .rule-of .ensures, rule-body _ _ (sym (c .before .before .before .before .form .ensures) ∙ c .before .before .f .given .1))
 
 returns-6 : tie.Need-returns-6
 returns-6 c = rw (sym (c .before .before .before .form .ensures) ∙ (c .before .enum-told5 .given .1)) (c .no-rule5 .ensures .0)
@@ -87,7 +88,6 @@ rule-in-spec =
     enum-told-4
     no-rule-requires-4
     enum-known-f
-    body-requires
     rule-of-requires
     enum-told-5
     no-rule-requires-5

@@ -1,46 +1,34 @@
 -- `sheet::sheets::fill` meets its contract. Assumes nothing.
-use Rattle.field.specs.own.Table.{Places}
-use Rattle.sheet.specs.laws.Sheets.{opens-end, opens-long, opens-stop}
+use mathlib.Core.Path.{_∙_, ap}
+use Prim.Native.Nat.{ℕ}
+use lib.ListN.{replicate}
+use native.Mathlib.Omega.{arith}
+use Rattle.sheet.specs.laws.Sheets.{opens-long, zeroed-all}
 use borrow.Author.Needs.{needs}
 use Rattle.sheet.proofs.sheets.fill.Statement.{statement}
 use Rattle.sheet.proofs.sheets.fill.Tie as tie
 
-blank-requires : tie.Need-blank-requires
-blank-requires c κs = search needs
+too-long-requires : tie.Need-too-long-requires
+too-long-requires c κs = search needs
 
 returns : tie.Need-returns
-returns c = opens-long _ _ (c .blank .ensures) _ (c .before .if1 .taken)
+returns c = rw (c .too-long .ensures) (opens-long _ _ _ (c .before .before .before .before .before .pre .1) (c .before .if1 .taken))
 
-read-all-requires : tie.Need-read-all-requires
-read-all-requires c κs = search needs
+zero-all-requires : tie.Need-zero-all-requires
+zero-all-requires c κs = search needs
 
-begin-requires : tie.Need-begin-requires
-begin-requires c κs = search needs
+fill-short-requires : tie.Need-fill-short-requires
+fill-short-requires c κs = (omega (arith, c .before .before .before .before .before .before .if1 .left), zeroed-all _ _ (c .before .before .before .before .zero-all .ensures) ∙ ap (λ (n : ℕ). replicate n 0) (c .before .before .before .before .before .before .before .before .before .before .pre .0), c .before .before .before .before .before .before .before .before .before .before .pre .1)
 
 same-length : tie.Need-same-length
 same-length c = search needs
 
-returns-2 : tie.Need-returns-2
-returns-2 c =
-    let g = c .before .before .before .before .before .before .before .before .before .before .before .before .read-all .ok in
-    let p : Places (c .before .before .before .before .before .before .before .before .before .before .before .before .read-all .result .kept .table) = record { concepts = search needs; roles = search needs; items = search needs } in
-    opens-end _ _ _ _ (c .before .before .before .before .before .before .before .before .before .before .before .before .read-all .ensures) p (c .before .before .before .before .before .before .before .before .if2 .taken) _ (c .before .before .begin .ensures)
-
 same-length-2 : tie.Need-same-length-2
 same-length-2 c = search needs
 
-returns-3 : tie.Need-returns-3
-returns-3 c = opens-stop _ _ _ _ (c .before .before .before .before .read-all .ensures) (c .if2 .left)
+returns-2 : tie.Need-returns-2
+returns-2 c = c .before .before .before .before .fill-short .ensures _
 
 pub fill-spec : {M : Type 1} → statement M
 fill-spec =
-    tie.close
-    (tie.spec
-    blank-requires
-    returns
-    read-all-requires
-    begin-requires
-    same-length
-    returns-2
-    same-length-2
-    returns-3)
+    tie.close (tie.spec too-long-requires returns zero-all-requires fill-short-requires same-length same-length-2 returns-2)

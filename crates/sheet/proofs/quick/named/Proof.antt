@@ -1,0 +1,37 @@
+-- `sheet::quick::named` meets its contract. Assumes nothing.
+use mathlib.Core.Path.{sym, _∙_}
+use mathlib.Core.Bool.{true≢false}
+use native.Mathlib.Omega.{arith}
+use Rattle.sheet.specs.laws.Quick.{all-named}
+use borrow.Author.Needs.{needs}
+use Rattle.sheet.proofs.quick.named.Statement.{statement}
+use Rattle.sheet.proofs.quick.named.Tie as tie
+
+field-count-requires : tie.Need-field-count-requires
+field-count-requires c κs = search needs
+
+untold-requires : tie.Need-untold-requires
+untold-requires c κs = search needs
+
+returns : tie.Need-returns
+returns c = λ e. absurd (true≢false (sym e ∙ c .untold .ensures))
+
+statement-requires : tie.Need-statement-requires
+statement-requires c κs = (c .before .before .before .before .before .before .pre .0, c .before .before .before .before .before .before .pre .1, omega arith)
+
+within-requires : tie.Need-within-requires
+within-requires c κs = search needs
+
+returns-2 : tie.Need-returns-2
+returns-2 c = λ e. all-named (c .before .before .before .before .before .before .before .before .pre .0) _ (c .before .before .before .before .before .before .before .before .pre .1) (c .before .before .if1 .left ∙ c .before .before .before .field-count .ensures) (c .before .statement .ensures) (c .within .ensures .holds e)
+
+pub named-spec : {M : Type 1} → statement M
+named-spec =
+    tie.close
+    (tie.spec
+    field-count-requires
+    untold-requires
+    returns
+    statement-requires
+    within-requires
+    returns-2)

@@ -1,0 +1,19 @@
+-- `sheet::read` meets its contract. Assumes nothing.
+use borrow.Author.Needs.{needs}
+use Rattle.sheet.proofs.read.Statement.{statement}
+use Rattle.sheet.proofs.read.Tie as tie
+
+slice-aggregate-whole : tie.Need-slice-aggregate-whole
+slice-aggregate-whole c = search needs
+
+whole-requires : tie.Need-whole-requires
+whole-requires c κs = search needs
+
+same-length : tie.Need-same-length
+same-length c = search needs
+
+returns : tie.Need-returns
+returns c = c .before .before .before .whole .ensures .reads
+
+pub read-spec : {M : Type 1} → statement M
+read-spec = tie.close (tie.spec slice-aggregate-whole whole-requires same-length returns)

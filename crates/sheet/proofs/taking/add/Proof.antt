@@ -1,0 +1,22 @@
+-- `sheet::taking::add` meets its contract. Assumes nothing.
+use mathlib.Core.Path.{refl}
+use Rattle.line.specs.Fault.{begun}
+use Rattle.sheet.specs.laws.Stands.{begun-keeps, stopped-zero}
+use borrow.Author.Needs.{needs}
+use Rattle.sheet.proofs.taking.add.Statement.{statement}
+use Rattle.sheet.proofs.taking.add.Tie as tie
+
+begin-requires : tie.Need-begin-requires
+begin-requires c κs = let st = c .before .before .before .before .pre .0 .stands in (stopped-zero (begun (c .before .before .before .before .args .k .marks)) _ _ (st .store), st .tidy .room)
+
+state-requires : tie.Need-state-requires
+state-requires c κs = (begun-keeps (c .before .before .before .before .before .before .before .before .pre .0 .stands) (c .before .before .before .begin .ensures) .store, c .before .before .before .before .before .before .before .before .pre .1)
+
+same-length : tie.Need-same-length
+same-length c = search needs
+
+returns : tie.Need-returns
+returns c = (refl, record { fresh = _; begins = c .before .before .before .before .before .before .begin .ensures; keeps = c .before .before .state .ensures })
+
+pub add-spec : {M : Type 1} → statement M
+add-spec = tie.close (tie.spec begin-requires state-requires same-length returns)
