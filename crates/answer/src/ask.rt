@@ -1,11 +1,12 @@
 // What a question asks for. What is public here is a part for `reply`, not an entry point.
 ghost use mathlib.Core.Path.{_≡_};
 ghost use mathlib.Core.Bool.{true, false};
+ghost use Rattle.field.specs.own.Line.{Looked};
 ghost use Rattle.text.specs.Bytes.{same};
 ghost use Rattle.text.specs.Split.{fields};
 ghost use Rattle.text.specs.Text.{decimal};
 ghost use Rattle.sheet.specs.own.Pass.{Judges};
-ghost use Rattle.field.specs.own.Table.{Roomy, namesOf};
+ghost use Rattle.field.specs.own.Table.{Tidy, namesOf, tableOf};
 ghost use Rattle.field.specs.Words.{bodyOf, formOf};
 ghost use Rattle.why.specs.own.Asked.{Of};
 ghost use Rattle.answer.specs.Question.{aboutFinding, bare as bareOf};
@@ -13,8 +14,9 @@ ghost use Rattle.answer.specs.own.Asked.{Asking, BreakingIf, FindingIf, 
 use crate::CellAsked;
 use crate::FindingAsked;
 use field::Form;
-use field::Table;
 use line::Marks;
+use line::Sheet;
+use store::Counts;
 use store::Item;
 use store::Statement;
 use why::Sides;
@@ -50,17 +52,17 @@ fn no_cell() -> CellAsked
 }
 
 // The cell that a question with nothing wrong with it asks for, if it is a statement.
-fn stated(sheet: &[u8], t: Table, q: &[u8]) -> CellAsked
-    requires { ⌜ Roomy t ⌝ }
-    ensures { λ r. ⌜ FormAsked (namesOf (now (sheet .entry)) t) (formOf (fields (now (q .entry)))) (bodyOf (fields (now (q .entry)))) r ⌝ }
+fn stated(sheet: &[u8], names: &[u32], counts: Counts, q: &[u8], ends: &[u16]) -> CellAsked
+    requires { ⌜ Tidy (now sheet) (tableOf (now names) counts) × Looked (now q) (now ends) ⌝ }
+    ensures { λ r. ⌜ FormAsked (namesOf (now (sheet .entry)) (tableOf (now (names .entry)) counts)) (formOf (fields (now (q .entry)))) (bodyOf (fields (now (q .entry)))) r ⌝ }
 {
-    let f = field::words::form(q);
+    let f = field::words::form(q, ends);
     match f {
         Form::Concept => no_cell(),
         Form::Role => no_cell(),
         Form::Item => no_cell(),
         Form::Statement(w) => {
-            let cell = saying::statements::statement(sheet, t, q, field::words::body(q), w);
+            let cell = saying::statements::statement(sheet, names, counts, q, ends, 1, w);
             CellAsked { asked: true, cell }
         }
         Form::Rule(_) => no_cell(),
@@ -70,16 +72,25 @@ fn stated(sheet: &[u8], t: Table, q: &[u8]) -> CellAsked
 }
 
 // The cell that a question asks for, if it is a statement with nothing wrong with it.
-pub fn cell(sheet: &[u8], t: Table, q: &[u8]) -> CellAsked
-    requires { ⌜ Roomy t ⌝ }
-    ensures { λ r. ⌜ Asking (r .asked) (namesOf (now (sheet .entry)) t) (now (q .entry)) r ⌝ }
+pub fn cell(sheet: &[u8], names: &[u32], counts: Counts, q: &[u8]) -> CellAsked
+    requires { ⌜ Tidy (now sheet) (tableOf (now names) counts) ⌝ }
+    ensures { λ r. ⌜ Asking (r .asked) (namesOf (now (sheet .entry)) (tableOf (now (names .entry)) counts)) (now (q .entry)) r ⌝ }
 {
+    if Sheet::LINE < q.len() {
+        return no_cell();
+    }
     let m = Marks {
         stated: true,
         rules: 0,
     };
-    if line::lines::line_fault(sheet, t, m, q) == 0 {
-        return stated(sheet, t, q);
+    let mut ends = [0u16; Sheet::FIELDS];
+    let s = text::scan::line(q, 0, &mut ends);
+    if s.end < q.len() {
+        return no_cell();
+    }
+    let n = row::number::lesser(s.count, Sheet::FIELDS);
+    if line::lines::line_fault(sheet, names, counts, m, q, s.good, &ends[..n]) == 0 {
+        return stated(sheet, names, counts, q, &ends[..n]);
     }
     no_cell()
 }
@@ -94,12 +105,20 @@ fn is_number(f: &[u8], n: usize) -> bool
 }
 
 // The sides of the rule of a number, if its line is the one that the field says and the item a breaks it; or none.
-fn sides_if(sheet: &[u8], t: Table, words: &[u64], k: usize, a: usize, on: bool) -> Sides
-    requires { ⌜ Judges (now sheet) t (now words) ⌝ }
-    ensures { λ r. ⌜ BreakingIf on (now (sheet .entry)) t (now (words .entry)) k a r ⌝ }
+fn sides_if(
+    sheet: &[u8],
+    names: &[u32],
+    counts: Counts,
+    words: &[u64],
+    k: usize,
+    a: usize,
+    on: bool,
+) -> Sides
+    requires { ⌜ Judges (now sheet) (tableOf (now names) counts) (now words) ⌝ }
+    ensures { λ r. ⌜ BreakingIf on (now (sheet .entry)) (tableOf (now (names .entry)) counts) (now (words .entry)) k a r ⌝ }
 {
     if on {
-        return why::finding::broken(sheet, t, words, k, a);
+        return why::finding::broken(sheet, names, counts, words, k, a);
     }
     Sides {
         named: false,
@@ -109,28 +128,28 @@ fn sides_if(sheet: &[u8], t: Table, words: &[u64], k: usize, a: usize, on: bool)
 }
 
 // The sides of a rule in the line that the field f says, if the item a breaks it.
-fn sides(sheet: &[u8], t: Table, words: &[u64], f: &[u8], a: usize) -> Sides
-    requires { ⌜ Judges (now sheet) t (now words) ⌝ }
-    ensures { λ r. ⌜ Of (now (sheet .entry)) t (λ x. SidesIf (r .named) (t .counts) x (now (words .entry)) (now (f .entry)) a r) ⌝ }
+fn sides(sheet: &[u8], names: &[u32], counts: Counts, words: &[u64], f: &[u8], a: usize) -> Sides
+    requires { ⌜ Judges (now sheet) (tableOf (now names) counts) (now words) ⌝ }
+    ensures { λ r. ⌜ Of (now (sheet .entry)) (tableOf (now (names .entry)) counts) (λ x. SidesIf (r .named) counts x (now (words .entry)) (now (f .entry)) a r) ⌝ }
 {
-    let mut q = sheet::pass::first(sheet, t);
+    let mut q = sheet::pass::first(sheet, names, counts);
     let mut n = 0;
-    let mut s = sides_if(sheet, t, words, 0, a, false);
+    let mut s = sides_if(sheet, names, counts, words, 0, a, false);
     while q.found {
-        s = sides_if(sheet, t, words, n, a, is_number(f, q.line));
+        s = sides_if(sheet, names, counts, words, n, a, is_number(f, q.line));
         if s.named {
             return s;
         }
         n += 1;
-        q = sheet::pass::next(sheet, t, q.past, q.line + 1);
+        q = sheet::pass::next(sheet, names, counts, q.past, q.line + 1);
     }
     s
 }
 
 // The finding that a question asks for whose first field is `finding`.
-pub fn finding(sheet: &[u8], t: Table, words: &[u64], q: &[u8]) -> FindingAsked
-    requires { ⌜ Judges (now sheet) t (now words) × (aboutFinding (now q) ≡ true) ⌝ }
-    ensures { λ r. ⌜ Of (now (sheet .entry)) t (λ x. FindingIf (r .found) (t .counts) x (now (words .entry)) (now (q .entry)) r) ⌝ }
+pub fn finding(sheet: &[u8], names: &[u32], counts: Counts, words: &[u64], q: &[u8]) -> FindingAsked
+    requires { ⌜ Judges (now sheet) (tableOf (now names) counts) (now words) × (aboutFinding (now q) ≡ true) ⌝ }
+    ensures { λ r. ⌜ Of (now (sheet .entry)) (tableOf (now (names .entry)) counts) (λ x. FindingIf (r .found) counts x (now (words .entry)) (now (q .entry)) r) ⌝ }
 {
     if text::part::count(q, 9) != 3 {
         return FindingAsked {
@@ -142,8 +161,8 @@ pub fn finding(sheet: &[u8], t: Table, words: &[u64], q: &[u8]) -> FindingAsked
     }
     let at = text::line::past(q, 0);
     let name = text::line::field(q, text::line::past(q, at));
-    let item = field::names::item(sheet, t, name);
-    let s = sides(sheet, t, words, text::line::field(q, at), item);
+    let item = field::names::item(sheet, names, counts, name);
+    let s = sides(sheet, names, counts, words, text::line::field(q, at), item);
     FindingAsked {
         found: s.named,
         item,

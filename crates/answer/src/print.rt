@@ -4,10 +4,11 @@ ghost use mathlib.Core.Bool.{true, false, cond};
 ghost use mathlib.Core.List.{[]};
 ghost use Prim.Native.Nat.{_+_, _*_, _≤_, _<_};
 ghost use lib.ListN.{length, getD};
+ghost use Rattle.field.specs.own.Line.{Looked};
 ghost use Rattle.text.specs.Split.{fields};
 ghost use Rattle.text.specs.Text.{Wrote};
 ghost use Rattle.field.specs.Words.{formOf};
-ghost use Rattle.field.specs.own.Table.{namesOf};
+ghost use Rattle.field.specs.own.Table.{Tidy, namesOf, tableOf};
 ghost use Rattle.row.specs.own.Row.{rowHasb};
 ghost use Rattle.reason.specs.own.Picked.{markWords};
 ghost use Rattle.answer.specs.Text.{numberedText};
@@ -16,15 +17,17 @@ use crate::Absent;
 use crate::Printed;
 use field::Form;
 use field::Table;
+use line::Sheet;
 use reason::Lines;
+use store::Counts;
 use store::Item;
-use store::Store;
 
 // Whether a line is that of a statement.
-fn is_statement(line: &[u8]) -> bool
+fn is_statement(line: &[u8], ends: &[u16]) -> bool
+    requires { ⌜ Looked (now line) (now ends) ⌝ }
     ensures { λ r. ⌜ r ≡ statementForm (formOf (fields (now (line .entry)))) ⌝ }
 {
-    let f = field::words::form(line);
+    let f = field::words::form(line, ends);
     match f {
         Form::Concept => false,
         Form::Role => false,
@@ -89,14 +92,17 @@ fn put_lines(sheet: &[u8], marks: &[u64; Lines::WORDS], room: &mut [u8]) -> Prin
     requires { ⌜ Accepted (now sheet) ⌝ }
     ensures { λ r. ⌜ LinesPut (now (sheet .entry)) (now (marks .entry)) (now (room .entry)) (now (room .exit)) r ⌝ }
 {
+    let mut ends = [0u16; Sheet::FIELDS];
     let mut at = text::part::end_of(sheet, 0, 10) + 1;
     let mut line = 2;
     let mut n = 0;
     let mut p = Printed { at: 0, total: 0 };
     while at <= sheet.len() {
-        let end = text::part::end_of(sheet, at, 10);
-        let bytes = text::part::part(sheet, at, end - at);
-        let stated = is_statement(bytes);
+        let s = text::scan::line(sheet, at, &mut ends);
+        let end = s.end;
+        let k = row::number::lesser(s.count, Sheet::FIELDS);
+        let bytes = &sheet[at..end];
+        let stated = is_statement(bytes, &ends[..k]);
         let on = marked_if(stated, marks, n);
         p = put_line_if(room, p, line, bytes, on);
         n = more_if(stated, n);
@@ -107,31 +113,33 @@ fn put_lines(sheet: &[u8], marks: &[u64; Lines::WORDS], room: &mut [u8]) -> Prin
 }
 
 // The name of a concept; no bytes where there is none with that number.
-fn concept(sheet: &[u8], t: Table, c: usize) -> &[u8]
-    ensures { λ r. ⌜ now r ≡ getD (namesOf (now (sheet .entry)) t .concepts) c [] ⌝ }
+fn concept<'a>(sheet: &'a [u8], names: &[u32], counts: Counts, c: usize) -> &'a [u8]
+    requires { ⌜ Tidy (now sheet) (tableOf (now names) counts) ⌝ }
+    ensures { λ r. ⌜ now r ≡ getD (namesOf (now (sheet .entry)) (tableOf (now (names .entry)) counts) .concepts) c [] ⌝ }
 {
-    let counts = t.counts;
-    let entries = t.concepts;
-    let none = text::part::part(sheet, 0, 0);
     if c < counts.concepts {
-        if c < Store::CONCEPTS {
-            return field::names::name_at(sheet, entries[c]);
-        }
-        return none;
+        return field::names::name_at(sheet, names[Table::CONCEPTS + c]);
     }
-    none
+    text::part::part(sheet, 0, 0)
 }
 
 // Writes what is absent, if it is to be printed: `absent`, `in`, item, concept.
-fn put_absent(sheet: &[u8], t: Table, a: Absent, room: &mut [u8], at: usize) -> usize
-    requires { ⌜ at ≤ 500000 ⌝ }
-    ensures { λ r. ⌜ Wrote (now (room .entry)) at (absentIf (namesOf (now (sheet .entry)) t) a) (now (room .exit)) r × (r ≤ at + 80) ⌝ }
+fn put_absent(
+    sheet: &[u8],
+    names: &[u32],
+    counts: Counts,
+    a: Absent,
+    room: &mut [u8],
+    at: usize,
+) -> usize
+    requires { ⌜ Tidy (now sheet) (tableOf (now names) counts) × (at ≤ 500000) ⌝ }
+    ensures { λ r. ⌜ Wrote (now (room .entry)) at (absentIf (namesOf (now (sheet .entry)) (tableOf (now (names .entry)) counts)) a) (now (room .exit)) r × (r ≤ at + 80) ⌝ }
 {
     if a.on {
         let word = text::write::put_all(room, at, b"absent\tin");
-        let item = report::print::put_name(sheet, t, Item(a.item), room, word);
+        let item = report::print::put_name(sheet, names, counts, Item(a.item), room, word);
         let tab = text::write::put(room, item, 9);
-        let name = text::write::put_all(room, tab, concept(sheet, t, a.concept));
+        let name = text::write::put_all(room, tab, concept(sheet, names, counts, a.concept));
         return text::write::put(room, name, 10);
     }
     at
@@ -140,15 +148,16 @@ fn put_absent(sheet: &[u8], t: Table, a: Absent, room: &mut [u8], at: usize) -> 
 // Writes the text of the statements marked, from the room's start on and as far as it reaches: their lines, what is absent, the total; gives its length.
 pub fn put_reason(
     sheet: &[u8],
-    t: Table,
+    names: &[u32],
+    counts: Counts,
     marks: &[u64; Lines::WORDS],
     a: Absent,
     room: &mut [u8],
 ) -> usize
-    requires { ⌜ Accepted (now sheet) ⌝ }
-    ensures { λ r. ⌜ ReasonPut (now (sheet .entry)) (namesOf (now (sheet .entry)) t) a (now (marks .entry)) (now (room .entry)) (now (room .exit)) r ⌝ }
+    requires { ⌜ Tidy (now sheet) (tableOf (now names) counts) × Accepted (now sheet) ⌝ }
+    ensures { λ r. ⌜ ReasonPut (now (sheet .entry)) (namesOf (now (sheet .entry)) (tableOf (now (names .entry)) counts)) a (now (marks .entry)) (now (room .entry)) (now (room .exit)) r ⌝ }
 {
     let p = put_lines(sheet, marks, room);
-    let at = put_absent(sheet, t, a, room, p.at);
+    let at = put_absent(sheet, names, counts, a, room, p.at);
     report::print::total(room, at, p.total as u64)
 }

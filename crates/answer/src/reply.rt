@@ -3,7 +3,7 @@ ghost use mathlib.Core.Path.{_≡_};
 ghost use mathlib.Core.Bool.{true};
 ghost use Rattle.store.specs.Cell.{cellOf};
 ghost use Rattle.sheet.specs.Promise.{refusedText};
-ghost use Rattle.field.specs.own.Table.{namesOf};
+ghost use Rattle.field.specs.own.Table.{Tidy, namesOf, tableOf};
 ghost use Rattle.why.specs.own.Asked.{Asked, Of};
 ghost use Rattle.answer.specs.Promise.{Fitted, Replies};
 ghost use Rattle.answer.specs.Question.{aboutFinding};
@@ -12,6 +12,7 @@ use crate::Absent;
 use field::Table;
 use reason::Lines;
 use store::Concept;
+use store::Counts;
 use store::Item;
 use store::Statement;
 use store::Store;
@@ -29,39 +30,59 @@ fn refuse(room: &mut [u8], line: usize, why: usize) -> usize
 }
 
 // Writes the text of the statements marked, if it has place in the room; gives its length.
-fn fit(sheet: &[u8], t: Table, marks: &[u64; Lines::WORDS], a: Absent, room: &mut [u8]) -> usize
-    requires { ⌜ Accepted (now sheet) ⌝ }
-    ensures { λ r. ⌜ ReasonFits (now (sheet .entry)) (namesOf (now (sheet .entry)) t) a (now (marks .entry)) (now (room .entry)) (now (room .exit)) r ⌝ }
+fn fit(
+    sheet: &[u8],
+    names: &[u32],
+    counts: Counts,
+    marks: &[u64; Lines::WORDS],
+    a: Absent,
+    room: &mut [u8],
+) -> usize
+    requires { ⌜ Tidy (now sheet) (tableOf (now names) counts) × Accepted (now sheet) ⌝ }
+    ensures { λ r. ⌜ ReasonFits (now (sheet .entry)) (namesOf (now (sheet .entry)) (tableOf (now (names .entry)) counts)) a (now (marks .entry)) (now (room .entry)) (now (room .exit)) r ⌝ }
 {
     let mut own = [0u8; 1];
-    let n = crate::print::put_reason(sheet, t, marks, a, &mut own);
+    let n = crate::print::put_reason(sheet, names, counts, marks, a, &mut own);
     if room.len() < n {
         return n;
     }
-    crate::print::put_reason(sheet, t, marks, a, room)
+    crate::print::put_reason(sheet, names, counts, marks, a, room)
 }
 
 // Writes the text of a reason for a cell that follows, with what is absent, if it has place in the room; gives its length.
-fn explain(sheet: &[u8], t: Table, cell: Statement, a: Absent, room: &mut [u8]) -> usize
-    requires { ⌜ Asked (now sheet) t (cellOf cell) ⌝ }
-    ensures { λ r. ⌜ Of (now (sheet .entry)) t (λ x. ReasonSaid (now (sheet .entry)) x (t .counts) (cellOf cell) a (now (room .entry)) (now (room .exit)) r) ⌝ }
+fn explain(
+    sheet: &[u8],
+    names: &[u32],
+    counts: Counts,
+    cell: Statement,
+    a: Absent,
+    room: &mut [u8],
+) -> usize
+    requires { ⌜ Asked (now sheet) (tableOf (now names) counts) (cellOf cell) ⌝ }
+    ensures { λ r. ⌜ Of (now (sheet .entry)) (tableOf (now (names .entry)) counts) (λ x. ReasonSaid (now (sheet .entry)) x counts (cellOf cell) a (now (room .entry)) (now (room .exit)) r) ⌝ }
 {
     let mut marks = [0u64; Lines::WORDS];
-    why::gather::reasoned(sheet, t, cell, &mut marks);
-    fit(sheet, t, &marks, a, room)
+    why::gather::reasoned(sheet, names, counts, cell, &mut marks);
+    fit(sheet, names, counts, &marks, a, room)
 }
 
 // Answers a question for a cell.
-fn cell(sheet: &[u8], t: Table, words: &[u64], q: &[u8], room: &mut [u8]) -> usize
-    requires { ⌜ Known (now sheet) t (now words) ⌝ }
+fn cell(
+    sheet: &[u8],
+    names: &[u32],
+    counts: Counts,
+    words: &[u64],
+    q: &[u8],
+    room: &mut [u8],
+) -> usize
+    requires { ⌜ Known (now sheet) (tableOf (now names) counts) (now words) ⌝ }
     ensures { λ r. ⌜ CellReply (now (sheet .entry)) (now (q .entry)) (now (room .entry)) (now (room .exit)) r ⌝ }
 {
-    let c = crate::ask::cell(sheet, t, q);
+    let c = crate::ask::cell(sheet, names, counts, q);
     if !c.asked {
         return refuse(room, 0, 24);
     }
     let s = c.cell;
-    let counts = t.counts;
     if !store::look::told(words, store::size::layout(), counts, s) {
         return refuse(room, 0, 24);
     }
@@ -70,15 +91,22 @@ fn cell(sheet: &[u8], t: Table, words: &[u64], q: &[u8], room: &mut [u8]) -> usi
         item: 0,
         concept: 0,
     };
-    explain(sheet, t, s, a, room)
+    explain(sheet, names, counts, s, a, room)
 }
 
 // Answers a question for a finding.
-fn finding(sheet: &[u8], t: Table, words: &[u64], q: &[u8], room: &mut [u8]) -> usize
-    requires { ⌜ Known (now sheet) t (now words) × (aboutFinding (now q) ≡ true) ⌝ }
+fn finding(
+    sheet: &[u8],
+    names: &[u32],
+    counts: Counts,
+    words: &[u64],
+    q: &[u8],
+    room: &mut [u8],
+) -> usize
+    requires { ⌜ Known (now sheet) (tableOf (now names) counts) (now words) × (aboutFinding (now q) ≡ true) ⌝ }
     ensures { λ r. ⌜ FindingReply (now (sheet .entry)) (now (q .entry)) (now (room .entry)) (now (room .exit)) r ⌝ }
 {
-    let f = crate::ask::finding(sheet, t, words, q);
+    let f = crate::ask::finding(sheet, names, counts, words, q);
     if !f.found {
         return refuse(room, 0, 25);
     }
@@ -88,7 +116,7 @@ fn finding(sheet: &[u8], t: Table, words: &[u64], q: &[u8], room: &mut [u8]) -> 
         item: f.item,
         concept: f.right,
     };
-    explain(sheet, t, left, a, room)
+    explain(sheet, names, counts, left, a, room)
 }
 
 // Answers a question about a sheet: writes the text to the room, if it has place there; gives its length.
@@ -96,15 +124,16 @@ pub fn reply(sheet: &[u8], question: &[u8], room: &mut [u8]) -> usize
     ensures { λ r. ⌜ Replies (now (sheet .entry)) (now (question .entry)) (now (room .entry)) (now (room .exit)) r ⌝ }
 {
     let mut words = [0u64; Store::WORDS];
-    let e = sheet::sheets::fill(sheet, &mut words);
+    let mut names = [0u32; Table::NUMBERS];
+    let e = sheet::sheets::fill_blank(sheet, &mut words, &mut names);
     if e.why != 0 {
         return refuse(room, e.line, e.why);
     }
     let kept = e.kept;
-    let t = kept.table;
+    let counts = kept.counts;
     let q = crate::ask::bare(question);
     if crate::ask::about_finding(q) {
-        return finding(sheet, t, &words, q, room);
+        return finding(sheet, &names, counts, &words, q, room);
     }
-    cell(sheet, t, &words, q, room)
+    cell(sheet, &names, counts, &words, q, room)
 }

@@ -20,7 +20,7 @@ use sheet::Reading;
 use store::Counts;
 use store::Layout;
 
-// A search for the findings of all rules of a sheet: the finding at hand, the search of its rule, how many that rule has left, and where the sheet is read on for the next rule.
+// A search for the findings of all rules of a sheet: the finding at hand, the search of its rule, how many that rule has left, how many names are declared, and where the sheet is read on for the next rule.
 struct Trail {
     pub finding: Finding,
     pub x: usize,
@@ -32,7 +32,7 @@ struct Trail {
     pub at: Layout,
     pub counts: Counts,
     pub more: u64,
-    pub names: Table,
+    pub declared: Counts,
     pub past: usize,
     pub line: usize,
     pub number: usize,
@@ -77,15 +77,22 @@ pub fn findings(
 }
 
 // Writes the first n findings from the trail on into the list.
-fn write_all(list: &mut [Finding], n: usize, sheet: &[u8], words: &[u64], first: Trail)
-    requires { ⌜ (n ≤ length (now list)) × (0 < n → Going (now sheet) (now words) first) ⌝ }
-    ensures { λ _. ⌜ Written (Went (now (sheet .entry)) (now (words .entry)) first) n (now (list .entry)) (now (list .exit)) ⌝ }
+fn write_all(
+    list: &mut [Finding],
+    n: usize,
+    sheet: &[u8],
+    names: &[u32],
+    words: &[u64],
+    first: Trail,
+)
+    requires { ⌜ (n ≤ length (now list)) × (0 < n → Going (now sheet) (now names) (now words) first) ⌝ }
+    ensures { λ _. ⌜ Written (Went (now (sheet .entry)) (now (names .entry)) (now (words .entry)) first) n (now (list .entry)) (now (list .exit)) ⌝ }
 {
     let mut c = first;
     let mut done = 0;
     while done < n {
         list[done] = c.finding;
-        c = trails::step(sheet, words, c);
+        c = trails::step(sheet, names, words, c);
         done += 1;
     }
 }
@@ -94,9 +101,10 @@ fn write_all(list: &mut [Finding], n: usize, sheet: &[u8], words: &[u64], first:
 pub fn read(sheet: &[u8], words: &mut [u64], list: &mut [Finding]) -> Reading
     ensures { λ r. ⌜ ReadsInto (now (sheet .entry)) (now (words .entry)) (now (words .exit)) (now (list .entry)) (now (list .exit)) r ⌝ }
 {
-    let p = trails::open(sheet, words, list.len());
+    let mut names = [0u32; Table::NUMBERS];
+    let p = trails::open(sheet, words, &mut names, list.len());
     let n = p.write;
     let c = p.trail;
-    write_all(list, n, sheet, words, c);
+    write_all(list, n, sheet, &names, words, c);
     p.answer
 }

@@ -1,17 +1,19 @@
 // The findings of all rules of an accepted sheet, one after the other: parts of `read`, seen in this crate alone.
 ghost use mathlib.Core.Path.{_≡_};
 ghost use Prim.Native.Nat.{min, _≤_};
+ghost use lib.ListN.{length};
 ghost use Rattle.store.specs.Layout.{ClosedStore, width};
-ghost use Rattle.sheet.specs.own.Pass.{Accepts, Paused};
-ghost use Rattle.listing.specs.own.Trail.{Ended, First, Going, Opens, Sought, Steps, searchOf, trailAt};
+ghost use Rattle.field.specs.own.Table.{Tidy, numberCount, tableOf};
+ghost use Rattle.sheet.specs.own.Pass.{Paused};
+ghost use Rattle.listing.specs.own.Trail.{Ended, Going, Opens, Sought, Steps, searchOf, trailAt};
 use crate::Opening;
 use crate::Trail;
-use field::Table;
 use judge::Search;
 use rule::Finding;
 use rule::Head;
 use rule::Second;
 use sheet::Reading;
+use store::Counts;
 use store::Item;
 
 // The search of the rule at hand.
@@ -38,9 +40,16 @@ fn search_of(c: Trail) -> Search
     }
 }
 
-// The trail at a search that has so many findings left; with the place past the rule's line, that line's number and the next rule's.
-fn trail_at(s: Search, more: u64, names: Table, past: usize, line: usize, number: usize) -> Trail
-    ensures { λ r. ⌜ r ≡ trailAt s more names past line number ⌝ }
+// The trail at a search that has so many findings left; with the counts of names, the place past the rule's line, that line's number and the next rule's.
+fn trail_at(
+    s: Search,
+    more: u64,
+    declared: Counts,
+    past: usize,
+    line: usize,
+    number: usize,
+) -> Trail
+    ensures { λ r. ⌜ r ≡ trailAt s more declared past line number ⌝ }
 {
     let finding = s.finding;
     let row = s.row;
@@ -60,7 +69,7 @@ fn trail_at(s: Search, more: u64, names: Table, past: usize, line: usize, number
         at,
         counts,
         more,
-        names,
+        declared,
         past,
         line,
         number,
@@ -68,11 +77,10 @@ fn trail_at(s: Search, more: u64, names: Table, past: usize, line: usize, number
 }
 
 // A trail with no finding left.
-fn ended(names: Table, past: usize, line: usize, number: usize) -> Trail
-    ensures { λ r. ⌜ Ended names past line number r ⌝ }
+fn ended(counts: Counts, past: usize, line: usize, number: usize) -> Trail
+    ensures { λ r. ⌜ Ended counts past line number r ⌝ }
 {
     let none = row::pick::empty();
-    let counts = names.counts;
     let finding = Finding {
         rule: 0,
         item: Item(0),
@@ -89,23 +97,30 @@ fn ended(names: Table, past: usize, line: usize, number: usize) -> Trail
         at: store::size::layout(),
         counts,
     };
-    trail_at(s, 0, names, past, line, number)
+    trail_at(s, 0, counts, past, line, number)
 }
 
 // The trail at the first finding of the rules past a place of the sheet, where a line with the number given begins; the first of these rules has its number too.
-fn seek(sheet: &[u8], words: &[u64], names: Table, from: usize, first: usize, rule: usize) -> Trail
-    requires { ⌜ ClosedStore width (names .counts) (now words) × Paused (now sheet) names from first × (rule ≤ from) ⌝ }
-    ensures { λ r. ⌜ Sought (now (sheet .entry)) (now (words .entry)) names from first rule r ⌝ }
+fn seek(
+    sheet: &[u8],
+    names: &[u32],
+    counts: Counts,
+    words: &[u64],
+    from: usize,
+    first: usize,
+    rule: usize,
+) -> Trail
+    requires { ⌜ Tidy (now sheet) (tableOf (now names) counts) × ClosedStore width counts (now words) × Paused (now sheet) (tableOf (now names) counts) from first × (rule ≤ from) ⌝ }
+    ensures { λ r. ⌜ Sought (now (sheet .entry)) (now (names .entry)) counts (now (words .entry)) from first rule r ⌝ }
 {
     let at = store::size::layout();
-    let counts = names.counts;
     let mut past = from;
     let mut line = first;
     let mut number = rule;
     loop {
-        let r = sheet::pass::next(sheet, names, past, line);
+        let r = sheet::pass::next(sheet, names, counts, past, line);
         if !r.found {
-            return ended(names, past, line, number);
+            return ended(counts, past, line, number);
         }
         let u = r.rule;
         let p = judge::seek::start(words, at, counts, number, u, 0);
@@ -116,31 +131,22 @@ fn seek(sheet: &[u8], words: &[u64], names: Table, from: usize, first: usize, ru
         number += 1;
         if 0 < more {
             let s = p.search;
-            return trail_at(s, more, names, past, line, number);
+            return trail_at(s, more, counts, past, line, number);
         }
     }
 }
 
 // The trail at the next finding: of the same rule, or of the next one that has any.
-pub fn step(sheet: &[u8], words: &[u64], c: Trail) -> Trail
-    requires { ⌜ Going (now sheet) (now words) c ⌝ }
-    ensures { λ r. ⌜ Steps (now (sheet .entry)) (now (words .entry)) c r ⌝ }
+pub fn step(sheet: &[u8], names: &[u32], words: &[u64], c: Trail) -> Trail
+    requires { ⌜ Going (now sheet) (now names) (now words) c ⌝ }
+    ensures { λ r. ⌜ Steps (now (sheet .entry)) (now (names .entry)) (now (words .entry)) c r ⌝ }
 {
-    let names = c.names;
+    let counts = c.declared;
     if 1 < c.more {
         let s = judge::seek::step(words, search_of(c));
-        return trail_at(s, c.more - 1, names, c.past, c.line, c.number);
+        return trail_at(s, c.more - 1, counts, c.past, c.line, c.number);
     }
-    seek(sheet, words, names, c.past, c.line, c.number)
-}
-
-// The trail at the first of all findings.
-fn first(sheet: &[u8], words: &[u64], names: Table) -> Trail
-    requires { ⌜ ClosedStore width (names .counts) (now words) × Accepts (now sheet) names ⌝ }
-    ensures { λ r. ⌜ First (now (sheet .entry)) (now (words .entry)) names r ⌝ }
-{
-    let end = text::part::end_of(sheet, 0, 10);
-    seek(sheet, words, names, end + 1, 2, 0)
+    seek(sheet, names, counts, words, c.past, c.line, c.number)
 }
 
 // So many as there are, or as there is room for.
@@ -155,16 +161,18 @@ fn fewer(total: u64, room: usize) -> usize
 }
 
 // Reads a sheet into the lent store: the answer, how many findings go into a list of so many places, and the trail at the first.
-pub fn open(sheet: &[u8], words: &mut [u64], room: usize) -> Opening
-    ensures { λ r. ⌜ Opens (now (sheet .entry)) (now (words .entry)) (now (words .exit)) room r ⌝ }
+pub fn open(sheet: &[u8], words: &mut [u64], names: &mut [u32], room: usize) -> Opening
+    requires { ⌜ length (now names) ≡ numberCount ⌝ }
+    ensures { λ r. ⌜ Opens (now (sheet .entry)) (now (words .entry)) (now (words .exit)) (now (names .exit)) room r ⌝ }
 {
-    let w = sheet::reads::whole(sheet, words);
+    let w = sheet::reads::whole(sheet, words, names);
     let answer = w.answer;
-    let names = w.table;
+    let counts = w.counts;
+    let start = w.start;
     match answer {
         Reading::Accepted(_, _, total) => {
             let write = fewer(total, room);
-            let trail = first(sheet, words, names);
+            let trail = seek(sheet, names, counts, words, start.at, start.line, 0);
             Opening {
                 answer,
                 write,
@@ -172,7 +180,7 @@ pub fn open(sheet: &[u8], words: &mut [u64], room: usize) -> Opening
             }
         }
         Reading::Refused(_, _) => {
-            let trail = ended(names, 0, 0, 0);
+            let trail = ended(counts, 0, 0, 0);
             Opening {
                 answer,
                 write: 0,

@@ -1,19 +1,29 @@
 // The whole text of a sheet.
-ghost use Rattle.sheet.specs.own.Pass.{Judges};
+ghost use Rattle.field.specs.own.Table.{tableOf};
+ghost use Rattle.sheet.specs.own.Pass.{Judges, Since};
 ghost use Rattle.report.specs.own.Lines.{Filled, JudgedAll};
 ghost use Rattle.report.specs.Promise.{Pages, PagesIn};
 use crate::Tally;
 use field::Table;
 use line::Sheet;
 use sheet::Ended;
+use sheet::Start;
+use store::Counts;
 use store::Store;
 
 // Judges the rules of an accepted sheet one after the other: prints their findings and counts them.
-fn judge_all(sheet: &[u8], t: Table, words: &[u64], room: &mut [u8]) -> Tally
-    requires { ⌜ Judges (now sheet) t (now words) ⌝ }
-    ensures { λ r. ⌜ JudgedAll (now (sheet .entry)) t (now (words .entry)) (now (room .entry)) (now (room .exit)) r ⌝ }
+fn judge_all(
+    sheet: &[u8],
+    names: &[u32],
+    counts: Counts,
+    start: Start,
+    words: &[u64],
+    room: &mut [u8],
+) -> Tally
+    requires { ⌜ Judges (now sheet) (tableOf (now names) counts) (now words) × Since (now sheet) start ⌝ }
+    ensures { λ r. ⌜ JudgedAll (now (sheet .entry)) (tableOf (now (names .entry)) counts) (now (words .entry)) (now (room .entry)) (now (room .exit)) r ⌝ }
 {
-    let mut q = sheet::pass::first(sheet, t);
+    let mut q = sheet::pass::next(sheet, names, counts, start.at, start.line);
     let mut n = 0;
     let mut b = Tally {
         at: 0,
@@ -22,22 +32,23 @@ fn judge_all(sheet: &[u8], t: Table, words: &[u64], room: &mut [u8]) -> Tally
     };
     while q.found {
         let u = q.rule;
-        b = crate::print::judge(sheet, t, q.line, n, u, words, room, b);
+        b = crate::print::judge(sheet, names, counts, q.line, n, u, words, room, b);
         n += 1;
-        q = sheet::pass::next(sheet, t, q.past, q.line + 1);
+        q = sheet::pass::next(sheet, names, counts, q.past, q.line + 1);
     }
     b
 }
 
-// Writes the text of a sheet whose lines ended so, with the store that they filled.
-fn print_ended(sheet: &[u8], e: Ended, words: &[u64], room: &mut [u8]) -> usize
-    requires { ⌜ Filled (now sheet) (now words) e ⌝ }
+// Writes the text of a sheet whose lines ended so, with the names and the store that they filled.
+fn print_ended(sheet: &[u8], e: Ended, names: &[u32], words: &[u64], room: &mut [u8]) -> usize
+    requires { ⌜ Filled (now sheet) (now names) (now words) e ⌝ }
     ensures { λ r. ⌜ Pages (now (sheet .entry)) (now (room .entry)) (now (room .exit)) r ⌝ }
 {
     if e.why == 0 {
         let kept = e.kept;
-        let t = kept.table;
-        let b = judge_all(sheet, t, words, room);
+        let counts = kept.counts;
+        let start = e.start;
+        let b = judge_all(sheet, names, counts, start, words, room);
         return crate::print::total(room, b.at, b.total);
     }
     crate::print::refused(room, 0, e.line, e.why)
@@ -50,8 +61,9 @@ pub fn page_in(sheet: &[u8], words: &mut [u64], room: &mut [u8]) -> usize
     if words.len() != Store::WORDS {
         return crate::print::refused(room, 0, 0, 1);
     }
-    let e = sheet::sheets::fill(sheet, words);
-    print_ended(sheet, e, words, room)
+    let mut names = [0u32; Table::NUMBERS];
+    let e = sheet::sheets::fill(sheet, words, &mut names);
+    print_ended(sheet, e, &names, words, room)
 }
 
 // Writes the text that is printed for a sheet, as far as the room reaches; gives the length of the whole text.
@@ -59,5 +71,7 @@ pub fn page(sheet: &[u8], room: &mut [u8]) -> usize
     ensures { λ r. ⌜ Pages (now (sheet .entry)) (now (room .entry)) (now (room .exit)) r ⌝ }
 {
     let mut words = [0u64; Store::WORDS];
-    page_in(sheet, &mut words, room)
+    let mut names = [0u32; Table::NUMBERS];
+    let e = sheet::sheets::fill_blank(sheet, &mut words, &mut names);
+    print_ended(sheet, e, &names, &words, room)
 }

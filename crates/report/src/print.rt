@@ -6,7 +6,7 @@ ghost use lib.ListN.{getD};
 ghost use Rattle.judge.specs.own.Search.{Ready};
 ghost use Rattle.text.specs.Text.{decimal, Wrote};
 ghost use Rattle.sheet.specs.Promise.{refusedText, secondText, tabbed, totalText};
-ghost use Rattle.field.specs.own.Table.{namesOf};
+ghost use Rattle.field.specs.own.Table.{Tidy, namesOf, tableOf};
 ghost use Rattle.report.specs.own.Lines.{RuleLines, Tallied, Tallying, lineText};
 use crate::Tally;
 use field::Table;
@@ -14,24 +14,18 @@ use judge::Search;
 use rule::Finding;
 use rule::Rule;
 use rule::Second;
+use store::Counts;
 use store::Item;
-use store::Store;
 
 // The name of an item; no bytes where there is none with that number.
-fn name(sheet: &[u8], t: Table, a: Item) -> &[u8]
-    ensures { λ r. ⌜ now r ≡ getD (namesOf (now (sheet .entry)) t .items) (a .0) [] ⌝ }
+fn name<'a>(sheet: &'a [u8], names: &[u32], counts: Counts, a: Item) -> &'a [u8]
+    requires { ⌜ Tidy (now sheet) (tableOf (now names) counts) ⌝ }
+    ensures { λ r. ⌜ now r ≡ getD (namesOf (now (sheet .entry)) (tableOf (now (names .entry)) counts) .items) (a .0) [] ⌝ }
 {
-    let counts = t.counts;
-    let entries = t.items;
-    let i = a.0;
-    let none = text::part::part(sheet, 0, 0);
-    if i < counts.items {
-        if i < Store::ITEMS {
-            return field::names::name_at(sheet, entries[i]);
-        }
-        return none;
+    if a.0 < counts.items {
+        return field::names::name_at(sheet, names[Table::ITEMS + a.0]);
     }
-    none
+    text::part::part(sheet, 0, 0)
 }
 
 // Writes a number after a tab.
@@ -44,22 +38,36 @@ pub fn put_number(room: &mut [u8], at: usize, n: usize) -> usize
 }
 
 // Writes the name of an item after a tab.
-pub fn put_name(sheet: &[u8], t: Table, a: Item, room: &mut [u8], at: usize) -> usize
-    requires { ⌜ at < 900000 ⌝ }
-    ensures { λ r. ⌜ (Wrote (now (room .entry)) at (tabbed (getD (namesOf (now (sheet .entry)) t .items) (a .0) [])) (now (room .exit)) r) × (r ≤ at + 32) ⌝ }
+pub fn put_name(
+    sheet: &[u8],
+    names: &[u32],
+    counts: Counts,
+    a: Item,
+    room: &mut [u8],
+    at: usize,
+) -> usize
+    requires { ⌜ Tidy (now sheet) (tableOf (now names) counts) × (at < 900000) ⌝ }
+    ensures { λ r. ⌜ (Wrote (now (room .entry)) at (tabbed (getD (namesOf (now (sheet .entry)) (tableOf (now (names .entry)) counts) .items) (a .0) [])) (now (room .exit)) r) × (r ≤ at + 32) ⌝ }
 {
     let p = text::write::put(room, at, 9);
-    text::write::put_all(room, p, name(sheet, t, a))
+    text::write::put_all(room, p, name(sheet, names, counts, a))
 }
 
 // Writes the second item of a finding, if there is one.
-fn put_second(sheet: &[u8], t: Table, s: Second, room: &mut [u8], at: usize) -> usize
-    requires { ⌜ at < 900000 ⌝ }
-    ensures { λ r. ⌜ (Wrote (now (room .entry)) at (secondText (namesOf (now (sheet .entry)) t) s) (now (room .exit)) r) × (r ≤ at + 32) ⌝ }
+fn put_second(
+    sheet: &[u8],
+    names: &[u32],
+    counts: Counts,
+    s: Second,
+    room: &mut [u8],
+    at: usize,
+) -> usize
+    requires { ⌜ Tidy (now sheet) (tableOf (now names) counts) × (at < 900000) ⌝ }
+    ensures { λ r. ⌜ (Wrote (now (room .entry)) at (secondText (namesOf (now (sheet .entry)) (tableOf (now (names .entry)) counts)) s) (now (room .exit)) r) × (r ≤ at + 32) ⌝ }
 {
     match s {
         Second::None => at,
-        Second::Item(b) => put_name(sheet, t, b, room, at),
+        Second::Item(b) => put_name(sheet, names, counts, b, room, at),
     }
 }
 
@@ -85,23 +93,32 @@ pub fn total(room: &mut [u8], at: usize, n: u64) -> usize
 }
 
 // Writes a finding of the rule in a line: `finding`, the line number, item, second item if any.
-fn finding(sheet: &[u8], t: Table, line: usize, f: Finding, room: &mut [u8], at: usize) -> usize
-    requires { ⌜ at < 800000 ⌝ }
-    ensures { λ r. ⌜ (Wrote (now (room .entry)) at (lineText (namesOf (now (sheet .entry)) t) line f) (now (room .exit)) r) × (r ≤ at + 93) ⌝ }
+fn finding(
+    sheet: &[u8],
+    names: &[u32],
+    counts: Counts,
+    line: usize,
+    f: Finding,
+    room: &mut [u8],
+    at: usize,
+) -> usize
+    requires { ⌜ Tidy (now sheet) (tableOf (now names) counts) × (at < 800000) ⌝ }
+    ensures { λ r. ⌜ (Wrote (now (room .entry)) at (lineText (namesOf (now (sheet .entry)) (tableOf (now (names .entry)) counts)) line f) (now (room .exit)) r) × (r ≤ at + 93) ⌝ }
 {
     let item = f.item;
     let other = f.second;
     let word = text::write::put_all(room, at, b"finding");
     let number = put_number(room, word, line);
-    let first = put_name(sheet, t, item, room, number);
-    let second = put_second(sheet, t, other, room, first);
+    let first = put_name(sheet, names, counts, item, room, number);
+    let second = put_second(sheet, names, counts, other, room, first);
     text::write::put(room, second, 10)
 }
 
 // Writes the first n findings from the search on, of the rule in a line.
 fn findings(
     sheet: &[u8],
-    t: Table,
+    names: &[u32],
+    counts: Counts,
     line: usize,
     n: usize,
     words: &[u64],
@@ -109,15 +126,15 @@ fn findings(
     room: &mut [u8],
     at: usize,
 ) -> usize
-    requires { ⌜ (n ≤ 200) × (at < 700000) × (0 < n → Ready (now words) first) ⌝ }
-    ensures { λ r. ⌜ (RuleLines (now (words .entry)) first n (namesOf (now (sheet .entry)) t) line (now (room .entry)) at (now (room .exit)) r) × (r ≤ at + 93 * n) ⌝ }
+    requires { ⌜ Tidy (now sheet) (tableOf (now names) counts) × (n ≤ 200) × (at < 700000) × (0 < n → Ready (now words) first) ⌝ }
+    ensures { λ r. ⌜ (RuleLines (now (words .entry)) first n (namesOf (now (sheet .entry)) (tableOf (now (names .entry)) counts)) line (now (room .entry)) at (now (room .exit)) r) × (r ≤ at + 93 * n) ⌝ }
 {
     let mut c = first;
     let mut p = at;
     let mut i = 0;
     while i < n {
         let f = c.finding;
-        p = finding(sheet, t, line, f, room, p);
+        p = finding(sheet, names, counts, line, f, room, p);
         c = judge::seek::step(words, c);
         i += 1;
     }
@@ -127,7 +144,8 @@ fn findings(
 // Judges the rule in a line: prints its findings, as many as are left to print, and counts them all.
 pub fn judge(
     sheet: &[u8],
-    t: Table,
+    names: &[u32],
+    counts: Counts,
     line: usize,
     number: usize,
     u: Rule,
@@ -135,16 +153,15 @@ pub fn judge(
     room: &mut [u8],
     b: Tally,
 ) -> Tally
-    requires { ⌜ Tallying (now words) (t .counts) b ⌝ }
-    ensures { λ r. ⌜ Tallied (now (words .entry)) (t .counts) number u (namesOf (now (sheet .entry)) t) line (now (room .entry)) b (now (room .exit)) r ⌝ }
+    requires { ⌜ Tidy (now sheet) (tableOf (now names) counts) × Tallying (now words) counts b ⌝ }
+    ensures { λ r. ⌜ Tallied (now (words .entry)) counts number u (namesOf (now (sheet .entry)) (tableOf (now (names .entry)) counts)) line (now (room .entry)) b (now (room .exit)) r ⌝ }
 {
     let layout = store::size::layout();
-    let counts = t.counts;
     let p = judge::seek::start(words, layout, counts, number, u, b.left);
     let n = p.write;
     let first = p.search;
     let answer = p.answer;
-    let at = findings(sheet, t, line, n, words, first, room, b.at);
+    let at = findings(sheet, names, counts, line, n, words, first, room, b.at);
     let m = sheet::reads::counted(answer);
     Tally {
         at,

@@ -2,7 +2,7 @@
 ghost use mathlib.Core.Path.{_≡_};
 ghost use mathlib.Core.Bool.{false};
 ghost use Rattle.sheet.specs.own.Pass.{Accepts, Judges};
-ghost use Rattle.field.specs.own.Table.{Roomy};
+ghost use Rattle.field.specs.own.Table.{Tidy, tableOf};
 ghost use Rattle.why.specs.own.Asked.{Of};
 ghost use Rattle.why.specs.Finding.{ExplainsFinding};
 ghost use Rattle.why.specs.own.Sides.{Breaking, NodeIs, RuleFound, SidesAre};
@@ -15,6 +15,7 @@ use rule::Node;
 use rule::Rule;
 use sheet::RuleLine;
 use store::Concept;
+use store::Counts;
 use store::Item;
 use store::Statement;
 use store::Store;
@@ -100,28 +101,35 @@ fn sides(u: Rule) -> Sides
 }
 
 // The rule of an accepted sheet with the number k, from 0.
-fn rule_at(sheet: &[u8], t: Table, k: usize) -> RuleLine
-    requires { ⌜ Roomy t × Accepts (now sheet) t ⌝ }
-    ensures { λ r. ⌜ Of (now (sheet .entry)) t (λ x. RuleFound (r .found) x k r) ⌝ }
+fn rule_at(sheet: &[u8], names: &[u32], counts: Counts, k: usize) -> RuleLine
+    requires { ⌜ Tidy (now sheet) (tableOf (now names) counts) × Accepts (now sheet) (tableOf (now names) counts) ⌝ }
+    ensures { λ r. ⌜ Of (now (sheet .entry)) (tableOf (now (names .entry)) counts) (λ x. RuleFound (r .found) x k r) ⌝ }
 {
-    let mut q = sheet::pass::first(sheet, t);
+    let mut q = sheet::pass::first(sheet, names, counts);
     let mut n = 0;
     while q.found {
         if n == k {
             return q;
         }
         n += 1;
-        q = sheet::pass::next(sheet, t, q.past, q.line + 1);
+        q = sheet::pass::next(sheet, names, counts, q.past, q.line + 1);
     }
     q
 }
 
 // The sides of the rule with the number k, if it is `sub` with concept names and the item a breaks it.
-pub fn broken(sheet: &[u8], t: Table, words: &[u64], k: usize, a: usize) -> Sides
-    requires { ⌜ Judges (now sheet) t (now words) ⌝ }
-    ensures { λ r. ⌜ Breaking (now (sheet .entry)) t (now (words .entry)) k a r ⌝ }
+pub fn broken(
+    sheet: &[u8],
+    names: &[u32],
+    counts: Counts,
+    words: &[u64],
+    k: usize,
+    a: usize,
+) -> Sides
+    requires { ⌜ Judges (now sheet) (tableOf (now names) counts) (now words) ⌝ }
+    ensures { λ r. ⌜ Breaking (now (sheet .entry)) (tableOf (now (names .entry)) counts) (now (words .entry)) k a r ⌝ }
 {
-    let q = rule_at(sheet, t, k);
+    let q = rule_at(sheet, names, counts, k);
     if !q.found {
         return no_sides();
     }
@@ -130,7 +138,6 @@ pub fn broken(sheet: &[u8], t: Table, words: &[u64], k: usize, a: usize) -> Side
     if !s.named {
         return no_sides();
     }
-    let counts = t.counts;
     let at = store::size::layout();
     let left = Statement::In(Item(a), Concept(s.left));
     if !store::look::told(words, at, counts, left) {
@@ -157,17 +164,18 @@ pub fn explain(
     if words.len() != Store::WORDS {
         return FindingExplained::Refused(0, 1);
     }
-    let e = sheet::sheets::fill(sheet, words);
+    let mut names = [0u32; Table::NUMBERS];
+    let e = sheet::sheets::fill(sheet, words, &mut names);
     if e.why != 0 {
         return FindingExplained::Refused(e.line, e.why);
     }
     let kept = e.kept;
-    let t = kept.table;
-    let s = broken(sheet, t, words, k, a.0);
+    let counts = kept.counts;
+    let s = broken(sheet, &names, counts, words, k, a.0);
     if !s.named {
         return FindingExplained::Refused(0, 25);
     }
     let left = Statement::In(a, Concept(s.left));
-    let total = crate::list(sheet, t, left, room);
+    let total = crate::list(sheet, &names, counts, left, room);
     FindingExplained::Lines(total, Concept(s.right))
 }

@@ -6,13 +6,14 @@ mod stating;
 ghost use Prim.Native.Nat.{_≤_};
 ghost use Rattle.store.specs.Cell.{cellOf};
 ghost use Rattle.sheet.specs.own.Pass.{Accepts};
-ghost use Rattle.field.specs.own.Table.{Roomy};
+ghost use Rattle.field.specs.own.Table.{Tidy, tableOf};
 ghost use Rattle.why.specs.own.Asked.{Asked};
 ghost use Rattle.why.specs.Promise.{Explains};
 ghost use Rattle.why.specs.own.Writing.{Answered, Lists, PutIf};
 use field::Table;
 use reason::Lines;
 use store::Concept;
+use store::Counts;
 use store::Statement;
 use store::Store;
 
@@ -69,29 +70,35 @@ fn put(list: &mut [u32], i: usize, line: usize, on: bool) -> usize
 }
 
 // Lists the lines of the statements marked, as far as the list reaches; says how many they are in all.
-fn write(sheet: &[u8], t: Table, marks: &[u64; Lines::WORDS], list: &mut [u32]) -> usize
-    requires { ⌜ Roomy t × Accepts (now sheet) t ⌝ }
-    ensures { λ r. ⌜ Lists (now (sheet .entry)) t (now (marks .entry)) (now (list .entry)) (now (list .exit)) r ⌝ }
+fn write(
+    sheet: &[u8],
+    names: &[u32],
+    counts: Counts,
+    marks: &[u64; Lines::WORDS],
+    list: &mut [u32],
+) -> usize
+    requires { ⌜ Tidy (now sheet) (tableOf (now names) counts) × Accepts (now sheet) (tableOf (now names) counts) ⌝ }
+    ensures { λ r. ⌜ Lists (now (sheet .entry)) (tableOf (now (names .entry)) counts) (now (marks .entry)) (now (list .entry)) (now (list .exit)) r ⌝ }
 {
-    let mut q = stating::first(sheet, t);
+    let mut q = stating::first(sheet, names, counts);
     let mut n = 0;
     let mut total = 0;
     while q.found {
         total = put(list, total, q.line, reason::marks::has(marks, n));
         n += 1;
-        q = stating::next(sheet, t, q.past, q.line + 1);
+        q = stating::next(sheet, names, counts, q.past, q.line + 1);
     }
     total
 }
 
 // Lists a reason for a cell that follows from the statements of an accepted sheet; says how many lines it has.
-pub fn list(sheet: &[u8], t: Table, cell: Statement, room: &mut [u32]) -> usize
-    requires { ⌜ Asked (now sheet) t (cellOf cell) ⌝ }
-    ensures { λ r. ⌜ Answered (now (sheet .entry)) t (cellOf cell) (now (room .entry)) (now (room .exit)) r ⌝ }
+pub fn list(sheet: &[u8], names: &[u32], counts: Counts, cell: Statement, room: &mut [u32]) -> usize
+    requires { ⌜ Asked (now sheet) (tableOf (now names) counts) (cellOf cell) ⌝ }
+    ensures { λ r. ⌜ Answered (now (sheet .entry)) (tableOf (now (names .entry)) counts) (cellOf cell) (now (room .entry)) (now (room .exit)) r ⌝ }
 {
     let mut marks = [0u64; Lines::WORDS];
-    gather::reasoned(sheet, t, cell, &mut marks);
-    write(sheet, t, &marks, room)
+    gather::reasoned(sheet, names, counts, cell, &mut marks);
+    write(sheet, names, counts, &marks, room)
 }
 
 // Reads a sheet into the lent store, and lists statement lines from which a cell follows, and from no part of them with a line taken out: the first ones as far as the list reaches; says how
@@ -102,15 +109,15 @@ pub fn explain(sheet: &[u8], words: &mut [u64], cell: Statement, room: &mut [u32
     if words.len() != Store::WORDS {
         return Explained::Refused(0, 1);
     }
-    let e = sheet::sheets::fill(sheet, words);
+    let mut names = [0u32; Table::NUMBERS];
+    let e = sheet::sheets::fill(sheet, words, &mut names);
     if e.why != 0 {
         return Explained::Refused(e.line, e.why);
     }
     let kept = e.kept;
-    let t = kept.table;
-    let counts = t.counts;
+    let counts = kept.counts;
     if !store::look::told(words, store::size::layout(), counts, cell) {
         return Explained::Refused(0, 24);
     }
-    Explained::Lines(list(sheet, t, cell, room))
+    Explained::Lines(list(sheet, &names, counts, cell, room))
 }

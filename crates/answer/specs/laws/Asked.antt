@@ -1,33 +1,39 @@
 -- Laws of taking a question apart. Assumes nothing.
 use mathlib.Core.Path.{_≡_, refl, sym, ap, _∙_, subst}
-use mathlib.Core.Bool.{Bool, true, false, true≢false}
+use mathlib.Core.Bool.{Bool, true, false, cond, not, true≢false}
 use mathlib.Core.List.{List, [], _∷_, _++_, map}
 use Prim.Native.Nat.{ℕ, suc, _+_, _-_, _≤_, _<_, zero-le}
 use native.Mathlib.Decide.{decLt}
 use native.Mathlib.Omega.{arith}
-use borrow.Author.Tests.{eq-eqb, ne-eqb}
+use borrow.Author.Tests.{eq-eqb, eqb-true, ne-eqb}
+use lib.Dec.{eqb}
 use lib.ListN.{length, getD, length-append}
+use lib.Seq.{take-all}
 use Rattle.store.specs.declared.Counts.{Counts}
-use Rattle.text.specs.Bytes.{bytes, same}
-use Rattle.text.specs.own.Split.{partOf, fieldFrom, partsFrom, pastField}
+use Rattle.text.specs.Bytes.{bytes, every, same}
+use Rattle.text.specs.Name.{lineByte}
+use Rattle.text.specs.own.Scan.{lineAt}
+use Rattle.text.specs.own.Split.{endOf, partOf, fieldFrom, partsFrom, pastField, upto}
 use Rattle.text.specs.Split.{fields}
 use Rattle.text.specs.Text.{decimal}
 use Rattle.text.specs.laws.Bytes.{same-all, same-true}
+use Rattle.text.specs.laws.Choice.{cond-both}
 use Rattle.text.specs.laws.Split.{fields-next, fields-none, parts-all}
 use Rattle.field.specs.declared.Form.{Form}
 use Rattle.field.specs.declared.Form.the-variants as form
 use Rattle.field.specs.declared.StatementWord.{StatementWord}
 use Rattle.sheet.specs.declared.RuleLine.{RuleLine}
-use Rattle.field.specs.declared.Table.{Table}
-use Rattle.line.specs.Fault.{lineFault}
+use Rattle.line.specs.Fault.{lineFault, lineLimit}
+use Rattle.line.specs.laws.Fault.{line-bytes}
 use Rattle.field.specs.Names.{Names}
 use Rattle.field.specs.Words.{at, Field, bodyOf, formOf}
 use Rattle.saying.specs.Read.{itemOf}
 use Rattle.sheet.specs.Said.{Said, SheetRule, lineOf, outcome}
 use Rattle.sheet.specs.Said.Outcome.{accepted}
-use Rattle.field.specs.own.Table.{namesOf}
+use Rattle.field.specs.own.Table.{Table, namesOf}
 use Rattle.sheet.specs.own.Pass.{foundRule}
 use Rattle.sheet.specs.laws.Count.{Turn, turn-rules}
+use Rattle.sheet.specs.laws.Taken.{right-short}
 use Rattle.why.specs.declared.Sides.{Sides}
 use Rattle.why.specs.Finding.{BrokenSub}
 use Rattle.why.specs.own.Sides.{BrokenIf}
@@ -55,6 +61,35 @@ asking-form n q r right h = go (formOf (fields q)) refl h
 -- a line with something wrong with it asks for no cell
 pub asking-wrong : (n : Names) (q : List ℕ) (r : CellAsked) → (lineFault n amongStatements q ≡ 0 → ⊥) → r .asked ≡ false → Asking (r .asked) n q r
 asking-wrong n q r wrong z = subst (λ (b : Bool). Asking b n q r) (sym z) (λ c a. wrong (a .right))
+
+-- one that is too long
+pub asking-long : (n : Names) (q : List ℕ) (r : CellAsked) → lineLimit < length q → r .asked ≡ false → Asking (r .asked) n q r
+asking-long n q r h z = asking-wrong n q r (λ e. omega (arith, right-short n amongStatements q e)) z
+
+-- a line feed may not stand in a line
+feed : lineByte 10 ≡ false
+unfolding lineByte
+feed = refl
+
+feed-wrong : (q : List ℕ) → upto 10 q < length q → every lineByte q ≡ false
+unfolding every upto
+feed-wrong [] h = absurd (omega arith)
+feed-wrong (b ∷ q) h = go (eqb b 10) refl h (feed-wrong q)
+  where
+    go : (e : Bool) → eqb b 10 ≡ e → cond e 0 (suc (upto 10 q)) < suc (length q) → (upto 10 q < length q → every lineByte q ≡ false) → cond (lineByte b) (every lineByte q) false ≡ false
+    go true is l more = rw (ap lineByte (eqb-true b 10 is) ∙ feed)
+    go false is l more = rw (more (omega arith)) (cond-both (λ (x : Bool). x ≡ false) (lineByte b) refl refl)
+
+-- a question with one in it
+pub asking-feed : (n : Names) (q : List ℕ) (r : CellAsked) → endOf 10 q 0 < length q → r .asked ≡ false → Asking (r .asked) n q r
+unfolding endOf
+asking-feed n q r h z =
+    let wrong = ap not (feed-wrong q (omega arith)) in
+    asking-wrong n q r (λ e. omega (arith, e, line-bytes n amongStatements q (λ l. omega arith) (right-short n amongStatements q e) wrong)) z
+
+-- a question without one is a line
+pub whole-line : (q : List ℕ) → length q ≤ endOf 10 q 0 → lineAt q 0 ≡ q
+whole-line q h = take-all (endOf 10 q 0 - 0) q (omega arith)
 
 -- ---- the line and its fields
 

@@ -17,15 +17,14 @@ use Rattle.store.specs.Layout.{ClosedStore, Holds, width}
 use Rattle.sheet.specs.declared.Ended.{Ended}
 use Rattle.field.specs.declared.Form.the-variants as form
 use Rattle.field.specs.declared.StatementWord.{StatementWord}
-use Rattle.field.specs.declared.Table.{Table}
 use Rattle.field.specs.Names.{Names, countsOf}
 use Rattle.sheet.specs.own.Pass.{Judges}
 use Rattle.sheet.specs.Promise.{refusedText}
 use Rattle.sheet.specs.Said.{Said, SheetStatement, lineOf, outcome}
 use Rattle.saying.specs.Read.{statementOf}
 use Rattle.sheet.specs.Said.Outcome.{accepted}
-use Rattle.sheet.specs.own.Stands.{Opens}
-use Rattle.field.specs.own.Table.{namesOf, Places}
+use Rattle.sheet.specs.own.Stands.{Opens, keptTable}
+use Rattle.field.specs.own.Table.{Table, namesOf}
 use Rattle.field.specs.Words.{bodyOf}
 use Rattle.sheet.specs.laws.Count.{opens-held, opens-outcome}
 use Rattle.sheet.specs.laws.Pass.{saidOf}
@@ -91,11 +90,11 @@ asked-accepted {sheet} a = record { said = a .sheetSaid .said; ends = a .sheetSa
 
 -- ---- what is known of the sheet
 
-pub known-opens : {sheet s u : List ℕ} {e : Ended} (w : Opens sheet s u e) → e .why ≡ 0 → Places (e .kept .table) → Known sheet (e .kept .table) u
-known-opens w z p = record { said = w .said; ends = opens-outcome w z; names = w .names; counts = opens-counts w p; room = w .room; held = opens-held w z }
+pub known-opens : {sheet s numbers u : List ℕ} {e : Ended} (w : Opens sheet s numbers u e) → e .why ≡ 0 → Known sheet (keptTable numbers e) u
+known-opens w z = record { said = w .said; ends = opens-outcome w z; names = w .names; counts = opens-counts w; tidy = w .tidy; held = opens-held w z }
 
 -- a refused sheet
-pub reply-refused : {sheet s u question room exit : List ℕ} {e : Ended} {r : ℕ} → Opens sheet s u e → (e .why ≡ 0 → ⊥) → Fitted (refusedText (e .line) (e .why)) room exit r → Replies sheet question room exit r
+pub reply-refused : {sheet s numbers u question room exit : List ℕ} {e : Ended} {r : ℕ} → Opens sheet s numbers u e → (e .why ≡ 0 → ⊥) → Fitted (refusedText (e .line) (e .why)) room exit r → Replies sheet question room exit r
 reply-refused {e = e} w z f = record { text = refusedText (e .line) (e .why); answers = refused {n = e .line} {k = e .why} {x = w .said} (w .ends ∙ rw (ne-eqb _ _ z)); fitted = f }
 
 -- a question asks for one cell
@@ -107,11 +106,11 @@ asks-unique {n} {q} a b = a .cell ∙ ap (λ (w : StatementWord). cellOf (statem
 
 module _ {sheet : List ℕ} {t : Table} {s : List ℕ} (k : Known sheet t s) where
   pub known-judges : Judges sheet t s
-  known-judges = record { room = k .room; sheetSaid = record { said = k .said; ends = k .ends; names = k .names }; store = subst (λ (n : Counts). ClosedStore width n s) (k .counts) (k .held .store) }
+  known-judges = record { tidy = k .tidy; sheetSaid = record { said = k .said; ends = k .ends; names = k .names }; store = subst (λ (n : Counts). ClosedStore width n s) (k .counts) (k .held .store) }
 
   -- a cell that holds in the store follows
   pub known-asked : (c : Cell) → Holds width (t .counts) s c → Asked sheet t c
-  known-asked c h = record { room = k .room; sheetSaid = known-judges .sheetSaid; follows = follows }
+  known-asked c h = record { tidy = k .tidy; sheetSaid = known-judges .sheetSaid; follows = follows }
     where
       here : FollowsFrom (t .counts) c (k .said .statements)
       here = subst (λ (n : Counts). FollowsFrom n c (k .said .statements)) (k .counts) (k .held .sound c (subst (λ (n : Counts). Holds width n s c) (sym (k .counts)) h))

@@ -9,6 +9,7 @@ use lib.Seq.{drop-drop, getD-drop}
 use Rattle.row.specs.own.Row.{rowHasb}
 use Rattle.reason.specs.own.Picked.{picked, pickedFrom}
 use Rattle.reason.specs.laws.Picked.{picked-more}
+use Rattle.text.specs.own.Scan.{lineAt}
 use Rattle.text.specs.own.Split.{partOf, endOf, partsFrom}
 use Rattle.text.specs.Bytes.{place, same}
 use Rattle.text.specs.Split.{fields, lines, split}
@@ -17,10 +18,11 @@ use Rattle.text.specs.laws.Split.{end-le, parts-all, parts-next, parts-none}
 use Rattle.text.specs.laws.Text.{wrote-none, wrote-then}
 use Rattle.field.specs.declared.Form.{Form}
 use Rattle.field.specs.declared.Form.the-variants as form
-use Rattle.line.specs.Fault.{sheetLimit}
-use Rattle.sheet.specs.Said.{Outcome, Said, SheetStatement, lineSaid, nothing, outcome, outcomeFrom, saying}
+use Rattle.line.specs.Fault.{lineFault, lineLimit, sheetLimit}
+use Rattle.sheet.specs.Said.{Outcome, Said, SheetStatement, lineSaid, marksOf, nothing, outcome, outcomeFrom, saying}
 use Rattle.sheet.specs.Said.Outcome.{accepted}
 use Rattle.field.specs.Words.{Field, bodyOf, formOf, lineForm}
+use Rattle.sheet.specs.laws.Taken.{right-short}
 use Rattle.sheet.specs.laws.Pass.{accepted-start, accepted-step, saidOf}
 use Rattle.why.specs.Listed.{linesOf}
 use Rattle.why.specs.laws.Listed.{lines-more}
@@ -92,9 +94,16 @@ module _ {sheet : List ℕ} {x : Said} {done : List ℕ} {at k : ℕ} (p : Stand
       ap (λ (o : Outcome). linesOf (saidOf o .statements)) (sym e) ∙ p .statements
 
   -- a line, and its end
-  module _ (e : ℕ) (l : List ℕ) (g : at ≤ length sheet) (ends : e ≡ endOf 10 sheet at) (is : l ≡ partOf sheet at (e - at)) where
+  module _ (e : ℕ) (l : List ℕ) (g : at ≤ length sheet) (ends : e ≡ endOf 10 sheet at) (is : l ≡ lineAt sheet at) where
     parted : partsFrom 10 sheet at ≡ l ∷ partsFrom 10 sheet (e + 1)
-    parted = parts-next 10 sheet at g ∙ rw (← ends, ← is)
+    parted = parts-next 10 sheet at g ∙ rw (is, ends)
+
+    -- it has nothing wrong with it, and the lines after it are accepted
+    stepped : (lineFault (p .said .names) (marksOf (p .said)) l ≡ 0) × (outcomeFrom (k + 1) (lineSaid k (p .said) l) (partsFrom 10 sheet (e + 1)) ≡ accepted x)
+    stepped = accepted-step k (p .said) x l (partsFrom 10 sheet (e + 1)) (rw parted at (p .rest))
+
+    standing-short : length l ≤ lineLimit
+    standing-short = right-short (p .said .names) (marksOf (p .said)) l (stepped .0)
 
     -- it is the line with the number k
     standing-line : getD (lines sheet) (k - 1) [] ≡ l
@@ -107,7 +116,7 @@ module _ {sheet : List ℕ} {x : Said} {done : List ℕ} {at k : ℕ} (p : Stand
         record {
           said = lineSaid k (p .said) l;
           statements = line-lines k (p .said) l ∙ ap (λ (rs : List ℕ). rs ++ cond (statementForm (formOf (fields l))) (k ∷ []) []) (p .statements);
-          rest = accepted-step k (p .said) x l (partsFrom 10 sheet (e + 1)) (rw parted at (p .rest)) .1;
+          rest = stepped .1;
           left = (let z : k + 1 - 1 ≡ k - 1 + 1 = omega (arith, p .first) in ap (λ (i : ℕ). drop i (lines sheet)) z ∙ sym (drop-drop 1 (k - 1) (lines sheet)) ∙ ap (drop 1) (p .left ∙ parted));
           first = omega arith;
           short = p .short;
@@ -158,7 +167,11 @@ one-length : (k : ℕ) (b : Bool) → length (cond b (k ∷ []) []) ≡ cond b 1
 one-length k true = refl
 one-length k false = refl
 
-module _ {sheet : List ℕ} {x : Said} {marks room mid : List ℕ} {p : Printed} {n at k : ℕ} (w : Written sheet x marks room mid p n at k) (e : ℕ) (l : List ℕ) (g : at ≤ length sheet) (ends : e ≡ endOf 10 sheet at) (is : l ≡ partOf sheet at (e - at)) where
+module _ {sheet : List ℕ} {x : Said} {marks room mid : List ℕ} {p : Printed} {n at k : ℕ} (w : Written sheet x marks room mid p n at k) (e : ℕ) (l : List ℕ) (g : at ≤ length sheet) (ends : e ≡ endOf 10 sheet at) (is : l ≡ lineAt sheet at) where
+  -- the line is not too long
+  pub written-short : length l ≤ lineLimit
+  written-short = standing-short (w .standing) e l g ends is
+
   -- a statement that is met is one of the sheet's
   pub written-few : statementForm (formOf (fields l)) ≡ true → n < length (x .statements)
   written-few s = omega (arith, standing-few (w .standing) e l g ends is s, w .count)
@@ -198,8 +211,8 @@ one-at-most true = omega arith
 one-at-most false = omega arith
 
 -- the bytes of a part
-pub part-length : (sheet : List ℕ) (at e : ℕ) {l : List ℕ} → l ≡ partOf sheet at (e - at) → length l ≤ e - at
-part-length sheet at e is = omega (arith, ap length is, length-take (e - at) (drop at sheet))
+pub part-length : (sheet : List ℕ) (at e : ℕ) → length (partOf sheet at (e - at)) ≤ e - at
+part-length sheet at e = omega (arith, length-take (e - at) (drop at sheet))
 
 -- a line of a statement has a byte, so that no more than fifteen bytes are written for each that is read
 pub room-grows : {l mid exit : List ℕ} (h : Bool) {b : Bool} {p q : Printed} {k at e : ℕ} → b ≡ cond (statementForm (formOf (fields l))) h false → PutIf b p k l mid exit q → length l ≤ e - at → at ≤ e

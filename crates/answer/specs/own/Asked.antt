@@ -7,9 +7,9 @@ use Rattle.text.specs.Bytes.{same}
 use Rattle.text.specs.Text.{decimal}
 use Rattle.store.specs.declared.Counts.{Counts}
 use Rattle.store.specs.Cell.{Cell, cellOf}
+use Rattle.field.specs.own.Table.{Table}
 use Rattle.field.specs.declared.Form.{Form}
 use Rattle.field.specs.declared.Form.the-variants as form
-use Rattle.field.specs.declared.Table.{Table}
 use Rattle.field.specs.Names.{Names}
 use Rattle.sheet.specs.Said.{Said, lineOf}
 use Rattle.saying.specs.Read.{statementOf}

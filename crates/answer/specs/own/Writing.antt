@@ -10,12 +10,11 @@ use Rattle.store.specs.declared.Counts.{Counts}
 use Rattle.store.specs.Cell.{Cell}
 use Rattle.field.specs.declared.Form.{Form}
 use Rattle.field.specs.declared.Form.the-variants as form
-use Rattle.field.specs.declared.Table.{Table}
 use Rattle.field.specs.Names.{Names, countsOf}
 use Rattle.sheet.specs.Promise.{Held}
 use Rattle.sheet.specs.Said.{Said, SheetStatement, outcome}
 use Rattle.sheet.specs.Said.Outcome.{accepted}
-use Rattle.field.specs.own.Table.{Roomy, namesOf}
+use Rattle.field.specs.own.Table.{Table, Tidy, namesOf}
 use Rattle.why.specs.Listed.{linesOf}
 use Rattle.why.specs.Reason.{Reason}
 use Rattle.answer.specs.declared.Absent.{Absent}
@@ -78,7 +77,7 @@ pub record Known (sheet : List ℕ) (t : Table) (s : List ℕ) : Type 0 where
   pub ends : outcome sheet ≡ accepted said
   pub names : said .names ≡ namesOf sheet t
   pub counts : countsOf (said .names) ≡ t .counts
-  pub room : Roomy t
+  pub tidy : Tidy sheet t
   pub held : Held said s
 
 -- the answer to a question q for a cell, without a line feed at its end

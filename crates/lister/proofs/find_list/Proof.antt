@@ -62,7 +62,8 @@ use Rattle.listing.proofs.findings.Met as fi-thm
 use Rattle.lister.specs.declared.Found.{Found}
 use Rattle.lister.proofs.Found as L
 use Rattle.lister.proofs.Found.Laws as L′
-use Rattle.lister.proofs.Lent.{Loan, array-back, as-field, lends-array, lentAt, ma, mf, places, room, tyAt}
+use Rattle.listing.proofs.Lent.{Loan, array-back, lends-array, lentAt}
+use Rattle.lister.proofs.Lists.{as-field, ma, mf, places, room, tyAt}
 use Rattle.lister.proofs.find_list.Key.{name as #lister·find-list}
 use Rattle.lister.proofs.find_list as fl
 use Rattle.lister.proofs.find_list.Statement as stated

@@ -54,7 +54,8 @@ use Rattle.listing.proofs.read.Met as rd-thm
 use Rattle.lister.specs.declared.Listed.{Listed}
 use Rattle.lister.proofs.Listed as L
 use Rattle.lister.proofs.Listed.Laws as L′
-use Rattle.lister.proofs.Lent.{Loan, array-back, as-field, lends-array, lentAt, ma, mf, places, room, tyAt}
+use Rattle.listing.proofs.Lent.{Loan, array-back, lends-array, lentAt}
+use Rattle.lister.proofs.Lists.{as-field, ma, mf, places, room, tyAt}
 use Rattle.lister.proofs.read_list.Key.{name as #lister·read-list}
 use Rattle.lister.proofs.read_list as rl
 use Rattle.lister.proofs.read_list.Statement as stated

@@ -1,25 +1,26 @@
 -- From what reading a sheet gives to how a reading with a list begins. Assumes nothing.
 use mathlib.Core.Path.{_≡_, refl, sym, ap, _∙_, subst}
-use mathlib.Core.List.{List}
+use mathlib.Core.List.{List, []}
 use Prim.Native.Nat.{ℕ, min}
 use native.Mathlib.Omega.{arith}
 use lib.ListN.{length}
 use Rattle.store.specs.declared.Counts.{Counts}
-use Rattle.store.specs.Layout.{ClosedStore, size, width}
+use Rattle.store.specs.Layout.{ClosedStore, Holds, size, width}
 use Rattle.rule.specs.declared.Finding.{Finding}
 use Rattle.sheet.specs.declared.Reading.{Reading}
 use Rattle.sheet.specs.declared.Reading.the-variants.{Accepted, Refused}
 use Rattle.sheet.specs.declared.Whole.{Whole}
 use Rattle.field.specs.Names.{countsOf}
-use Rattle.sheet.specs.own.Pass.{Accepts, Wholly}
-use Rattle.sheet.specs.Promise.{FindingsIn, Held, Reads}
+use Rattle.sheet.specs.own.Pass.{Passing, Paused, Wholly}
+use Rattle.sheet.specs.Promise.{FindingsFrom, FindingsIn, Held, Reads}
 use Rattle.sheet.specs.Promise.Reads.{wrong-size, refused as refusedRead, accepted as acceptedRead}
 use Rattle.sheet.specs.Said.{Said, outcome}
 use Rattle.sheet.specs.Said.Outcome.{accepted as acceptedSheet}
-use Rattle.field.specs.own.Table.{namesOf, Places}
+use Rattle.field.specs.own.Table.{Table, namesOf, tableOf}
+use Rattle.sheet.specs.laws.Pass.{passing-since}
 use Rattle.sheet.specs.laws.Stands.{counts-of}
 use Rattle.listing.specs.declared.Trail.{Trail}
-use Rattle.listing.specs.own.Trail.{First, Opens}
+use Rattle.listing.specs.own.Trail.{Opens, Sought}
 use Rattle.listing.specs.own.Trail.Begins.{refused, accepted}
 
 -- the findings that an answer counts
@@ -48,7 +49,11 @@ reads-accepted e (wrong-size z q) = absurd (omega (arith, e))
 reads-accepted e (refusedRead l o p) = absurd (omega (arith, e))
 reads-accepted e (acceptedRead {x = x} {fs = fs} l o h a) = record { said = x; list = fs; long = l; ends = o; held = h; findings = a; answer = refl }
 
-module _ {sheet s t : List ℕ} {w : Whole} (z : Wholly sheet s t w) where
+module _ {sheet s t numbers : List ℕ} {w : Whole} (z : Wholly sheet s t numbers w) where
+  -- the names as they were read
+  abbrev table : Table
+  table = tableOf numbers (w .counts)
+
   -- the sheet is accepted
   module _ {n : Counts} {m k : ℕ} (e : w .answer ≡ Accepted n m k) where
     -- how it was read
@@ -56,28 +61,41 @@ module _ {sheet s t : List ℕ} {w : Whole} (z : Wholly sheet s t w) where
     read-so = reads-accepted (ap isRefused e) (z .reads)
 
     -- its names are those of the table
-    named : read-so .said .names ≡ namesOf sheet (w .table)
+    named : read-so .said .names ≡ namesOf sheet table
     named = z .names (read-so .said) (read-so .long) (read-so .ends)
 
-    -- what going through its rules asks
-    pub opens-store : Places (w .table) → ClosedStore width (w .table .counts) t
-    opens-store p = subst (λ (c : Counts). ClosedStore width c t) (ap countsOf named ∙ counts-of sheet (w .table) p (z .room)) (read-so .held .store)
+    counted : countsOf (read-so .said .names) ≡ w .counts
+    counted = ap countsOf named ∙ counts-of sheet table (z .tidy)
 
-    -- the sheet is that of the table
-    pub opens-accepts : Accepts sheet (w .table)
-    opens-accepts = record { said = read-so .said; ends = read-so .ends; names = named }
+    -- its rules are read from where they begin
+    passing : Passing sheet table (read-so .said) [] (w .start .at) (w .start .line)
+    passing = passing-since sheet table (read-so .said) (w .start) (z .start (read-so .said) (read-so .long) (read-so .ends)) (read-so .ends) named
+
+    -- what going through its rules asks
+    pub opens-store : ClosedStore width (w .counts) t
+    opens-store = subst (λ (c : Counts). ClosedStore width c t) counted (read-so .held .store)
+
+    pub opens-paused : Paused sheet table (w .start .at) (w .start .line)
+    opens-paused = record { all = read-so .said; before = []; passing = passing }
 
     -- the reading with a list begins at the first of all findings
-    pub opens-accepted : {c : Trail} {i : ℕ} (room : ℕ) → i ≡ min k room → First sheet t (w .table) c → Opens sheet s t room (record { answer = Accepted n m k; write = i; trail = c })
+    pub opens-accepted : {c : Trail} {i : ℕ} (room : ℕ) → i ≡ min k room → Sought sheet numbers (w .counts) t (w .start .at) (w .start .line) 0 c
+        → Opens sheet s t numbers room (record { answer = Accepted n m k; write = i; trail = c })
     opens-accepted {c} {i} room h f =
         let total : k ≡ length (read-so .list) = ap totalIn (sym e ∙ read-so .answer) in
         record {
           fits = omega (arith, h);
           going = λ _. f .going;
           begins = accepted (read-so .long) (read-so .ends) (read-so .held) (read-so .findings) (sym e ∙ read-so .answer) (h ∙ ap (λ (j : ℕ). min j room) total)
-              (f .onward (read-so .said) (read-so .list) (read-so .ends) named (read-so .findings));
+              (f .onward (read-so .list) (record {
+                said = read-so .said;
+                done = [];
+                passing = passing;
+                number = refl;
+                findings = subst (λ (c : Counts). FindingsFrom (Holds width c t) c 0 (read-so .said .rules) (read-so .list)) counted (read-so .findings);
+              }));
         }
 
   -- it is refused
-  pub opens-refused : {c : Trail} {n k : ℕ} (room : ℕ) → w .answer ≡ Refused n k → Opens sheet s t room (record { answer = w .answer; write = 0; trail = c })
+  pub opens-refused : {c : Trail} {n k : ℕ} (room : ℕ) → w .answer ≡ Refused n k → Opens sheet s t numbers room (record { answer = w .answer; write = 0; trail = c })
   opens-refused room e = record { fits = omega arith; going = λ h. absurd (omega arith); begins = refused (subst (Reads sheet s t) e (z .reads)) e refl }

@@ -23,11 +23,11 @@ use Rattle.listing.specs.laws.Trail.{went-first}
 use Rattle.listing.specs.laws.Written.{written-first, written-none}
 
 -- the writer's work is the reading
-pub reads-by : {sheet s t : List ℕ} {before after : List Finding} {p : Opening} → Opens sheet s t (length before) p → Written (Went sheet t (p .trail)) (p .write) before after
+pub reads-by : {sheet s t numbers : List ℕ} {before after : List Finding} {p : Opening} → Opens sheet s t numbers (length before) p → Written (Went sheet numbers t (p .trail)) (p .write) before after
     → ReadsInto sheet s t before after (p .answer)
-reads-by {sheet} {s} {t} {before} {after} {p} a w = go (a .begins)
+reads-by {sheet} {s} {t} {numbers} {before} {after} {p} a w = go (a .begins)
   where
-    go : Begins sheet s t (length before) p → ReadsInto sheet s t before after (p .answer)
+    go : Begins sheet s t numbers (length before) p → ReadsInto sheet s t before after (p .answer)
     go (not-begun r e z) = subst (λ (q : Reading). ReadsInto sheet s t before after q) (sym e) (refused r (written-none z w))
     go (begun {fs = fs} l o h f e z c) =
         subst (λ (q : Reading). ReadsInto sheet s t before after q) (sym e)

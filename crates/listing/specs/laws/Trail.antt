@@ -19,19 +19,15 @@ use Rattle.rule.specs.Findings.{Findings}
 use Rattle.judge.specs.own.Search.{Coming, Starts, Stepped}
 use Rattle.rule.specs.laws.Findings.{findings-unique}
 use Rattle.judge.specs.laws.Search.{coming-first}
-use Rattle.text.specs.own.Split.{endOf}
 use Rattle.sheet.specs.declared.RuleLine.{RuleLine}
-use Rattle.field.specs.declared.Table.{Table}
-use Rattle.field.specs.Names.{countsOf}
 use Rattle.sheet.specs.own.Pass.{Next, NextRule, Passing, Paused, countedIn, foundRule}
 use Rattle.sheet.specs.Promise.{FindingsFrom}
 use Rattle.sheet.specs.Promise.FindingsFrom.{none, more}
 use Rattle.sheet.specs.Said.{SheetRule}
-use Rattle.field.specs.own.Table.{Roomy, Places}
-use Rattle.sheet.specs.laws.Pass.{passing-rest, passing-start}
-use Rattle.sheet.specs.laws.Stands.{counts-of}
+use Rattle.field.specs.own.Table.{Table, Tidy}
+use Rattle.sheet.specs.laws.Pass.{passing-rest}
 use Rattle.listing.specs.declared.Trail.{Trail}
-use Rattle.listing.specs.own.Trail.{Beyond, Ended, First, Going, Onward, Sought, Steps, Went, searchOf, trailAt}
+use Rattle.listing.specs.own.Trail.{Beyond, Ended, Going, Onward, Sought, Steps, Went, namesAt, searchOf, trailAt}
 
 -- ---- the findings of rules
 
@@ -123,9 +119,10 @@ module _ (sheet s : List ℕ) (names : Table) (past line k : ℕ) (r : RuleLine)
       p = from-more (subst (λ (rs : List SheetRule). From k rs fs) at-it (b .findings))
 
   -- no rule is left
-  pub sought-none : {c : Trail} → r .found ≡ false → ClosedStore width (names .counts) s → Paused sheet names past line → k ≤ past → Ended names past line k c → Sought sheet s names past line k c
-  sought-none {c} e m p h z = rw (z .names-kept, z .past-kept, z .line-kept, z .number-kept) (record {
-    going = record { ready = λ i. absurd (omega (arith, z .more)); store = m; paused = p; few = h };
+  pub sought-none : {c : Trail} → r .found ≡ false → Tidy sheet names → ClosedStore width (names .counts) s → Paused sheet names past line → k ≤ past → Ended (names .counts) past line k c
+      → Sought sheet (names .numbers) (names .counts) s past line k c
+  sought-none {c} e y m p h z = rw (z .declared-kept, z .past-kept, z .line-kept, z .number-kept) (record {
+    going = record { ready = λ i. absurd (omega (arith, z .more)); tidy = y; store = m; paused = p; few = h };
     onward = λ fs b. record { here = []; later = fs; all = refl; more = z .more; coming = λ i. absurd (omega (arith, z .more)); beyond = b; end = λ i. beyond-none e b };
   })
 
@@ -151,10 +148,10 @@ module _ (sheet s : List ℕ) (names : Table) (past line k : ℕ) (r : RuleLine)
         go t (g ∷ gs) q = absurd (omega (arith, o, counts, ap length (started t), ap length q))
 
     -- some: the trail stands at the first
-    pub sought-some : ClosedStore width (names .counts) s → Paused sheet names past line → k ≤ past → 0 < countedIn (p .answer)
-        → Sought sheet s names past line k (trailAt (p .search) (countedIn (p .answer)) names (r .past) (r .line + 1) (k + 1))
-    sought-some m a h o = record {
-      going = record { ready = λ i. z .ready; store = m; paused = beyond-paused n e a; few = omega (arith, n .later) };
+    pub sought-some : Tidy sheet names → ClosedStore width (names .counts) s → Paused sheet names past line → k ≤ past → 0 < countedIn (p .answer)
+        → Sought sheet (names .numbers) (names .counts) s past line k (trailAt (p .search) (countedIn (p .answer)) (names .counts) (r .past) (r .line + 1) (k + 1))
+    sought-some y m a h o = record {
+      going = record { ready = λ i. z .ready; tidy = y; store = m; paused = beyond-paused n e a; few = omega (arith, n .later) };
       onward = λ fs b. let t = beyond-rule e b in record {
         here = t .here;
         later = t .later;
@@ -169,7 +166,7 @@ module _ (sheet s : List ℕ) (names : Table) (past line k : ℕ) (r : RuleLine)
 -- ---- one finding further
 
 -- the first of the findings that come is the one at hand
-pub onward-first : {sheet s : List ℕ} {c : Trail} {f : Finding} {fs : List Finding} → Onward sheet s c (f ∷ fs) → f ≡ c .finding
+pub onward-first : {sheet numbers s : List ℕ} {c : Trail} {f : Finding} {fs : List Finding} → Onward sheet numbers s c (f ∷ fs) → f ≡ c .finding
 onward-first {s = s} {c = c} {f = f} {fs = fs} k = go (k .here) (k .all) (k .more) (k .coming)
   where
     go : (hs : List Finding) → f ∷ fs ≡ hs ++ k .later → c .more ≡ length hs → (0 < c .more → Coming s (searchOf c) hs) → f ≡ c .finding
@@ -177,14 +174,14 @@ onward-first {s = s} {c = c} {f = f} {fs = fs} k = go (k .here) (k .all) (k .mor
     go (h ∷ hs) e m g = ap (λ (l : List Finding). getD l 0 f) e ∙ coming-first (g (omega (arith, m)))
 
 -- of the same rule
-pub steps-along : {sheet s : List ℕ} {c : Trail} {d : Search} → Going sheet s c → 1 < c .more → Stepped s (searchOf c) d → Steps sheet s c (trailAt d (c .more - 1) (c .names) (c .past) (c .line) (c .number))
-steps-along {sheet} {s} {c} {d} a h t = record {
-  going = record { ready = λ i. t .ready; store = a .store; paused = a .paused; few = a .few };
+pub steps-along : {sheet numbers s : List ℕ} {c : Trail} {d : Search} → Going sheet numbers s c → 1 < c .more → Stepped s (searchOf c) d → Steps sheet numbers s c (trailAt d (c .more - 1) (c .declared) (c .past) (c .line) (c .number))
+steps-along {sheet} {numbers} {s} {c} {d} a h t = record {
+  going = record { ready = λ i. t .ready; tidy = a .tidy; store = a .store; paused = a .paused; few = a .few };
   next = λ f fs k. go f fs k (k .here) (k .all) (k .more) (k .coming);
 }
   where
-    go : (f : Finding) (fs : List Finding) (k : Onward sheet s c (f ∷ fs)) (hs : List Finding) → f ∷ fs ≡ hs ++ k .later → c .more ≡ length hs → (0 < c .more → Coming s (searchOf c) hs)
-        → Onward sheet s (trailAt d (c .more - 1) (c .names) (c .past) (c .line) (c .number)) fs
+    go : (f : Finding) (fs : List Finding) (k : Onward sheet numbers s c (f ∷ fs)) (hs : List Finding) → f ∷ fs ≡ hs ++ k .later → c .more ≡ length hs → (0 < c .more → Coming s (searchOf c) hs)
+        → Onward sheet numbers s (trailAt d (c .more - 1) (c .declared) (c .past) (c .line) (c .number)) fs
     go f fs k [] e m g = absurd (omega (arith, m))
     go f fs k (j ∷ hs) e m g = record {
       here = hs;
@@ -197,10 +194,10 @@ steps-along {sheet} {s} {c} {d} a h t = record {
     }
 
 -- of the next rule that has any
-pub steps-over : {sheet s : List ℕ} {c d : Trail} → c .more ≤ 1 → Sought sheet s (c .names) (c .past) (c .line) (c .number) d → Steps sheet s c d
-steps-over {sheet} {s} {c} {d} h z = record { going = z .going; next = λ f fs k. z .onward fs (subst (Beyond sheet s (c .names) (c .past) (c .line) (c .number)) (sym (go f fs k (k .here) (k .all) (k .more))) (k .beyond)) }
+pub steps-over : {sheet numbers s : List ℕ} {c d : Trail} → c .more ≤ 1 → Sought sheet numbers (c .declared) s (c .past) (c .line) (c .number) d → Steps sheet numbers s c d
+steps-over {sheet} {numbers} {s} {c} {d} h z = record { going = z .going; next = λ f fs k. z .onward fs (subst (Beyond sheet s (namesAt numbers c) (c .past) (c .line) (c .number)) (sym (go f fs k (k .here) (k .all) (k .more))) (k .beyond)) }
   where
-    go : (f : Finding) (fs : List Finding) (k : Onward sheet s c (f ∷ fs)) (hs : List Finding) → f ∷ fs ≡ hs ++ k .later → c .more ≡ length hs → fs ≡ k .later
+    go : (f : Finding) (fs : List Finding) (k : Onward sheet numbers s c (f ∷ fs)) (hs : List Finding) → f ∷ fs ≡ hs ++ k .later → c .more ≡ length hs → fs ≡ k .later
     go f fs k [] e m = absurd (omega (arith, ap length e, ap length (k .end m)))
     go f fs k (j ∷ []) e m = ap (drop 1) e
     go f fs k (j ∷ i ∷ hs) e m = absurd (omega (arith, m))
@@ -208,40 +205,23 @@ steps-over {sheet} {s} {c} {d} h z = record { going = z .going; next = λ f fs k
 -- ---- many findings further
 
 -- what was met are the first of the findings that were to come, and the others are still to come
-record Passed (sheet s : List ℕ) (d : Trail) (fs ms : List Finding) : Type 0 where
+record Passed (sheet numbers s : List ℕ) (d : Trail) (fs ms : List Finding) : Type 0 where
   rest : List Finding
   all : fs ≡ ms ++ rest
-  onward : Onward sheet s d rest
+  onward : Onward sheet numbers s d rest
 
 -- so it is after any number of steps
-went-passed : {sheet s : List ℕ} {first d : Trail} {ms fs : List Finding} → Went sheet s first ms d → Onward sheet s first fs → length ms ≤ length fs → Passed sheet s d fs ms
+went-passed : {sheet numbers s : List ℕ} {first d : Trail} {ms fs : List Finding} → Went sheet numbers s first ms d → Onward sheet numbers s first fs → length ms ≤ length fs → Passed sheet numbers s d fs ms
 went-passed {fs = fs} Went.start k h = record { rest = fs; all = refl; onward = k }
-went-passed {sheet} {s} {fs = fs} (Went.more {fs = ms} {c = c} {d = d} w t) k h =
+went-passed {sheet} {numbers} {s} {fs = fs} (Went.more {fs = ms} {c = c} {d = d} w t) k h =
     let long = length-append ms (c .finding ∷ []) in
     let p = went-passed w k (omega arith) in
     go (p .rest) (p .all) (p .onward)
   where
-    go : (gs : List Finding) → fs ≡ ms ++ gs → Onward sheet s c gs → Passed sheet s d fs (ms ++ c .finding ∷ [])
+    go : (gs : List Finding) → fs ≡ ms ++ gs → Onward sheet numbers s c gs → Passed sheet numbers s d fs (ms ++ c .finding ∷ [])
     go [] e k = absurd (omega (arith, ap length e, length-append ms [], length-append ms (c .finding ∷ [])))
     go (g ∷ gs) e k = record { rest = gs; all = e ∙ ap (λ (f : Finding). ms ++ f ∷ gs) (onward-first k) ∙ sym (append-snoc ms (c .finding) gs); onward = t .next g gs k }
 
 -- the findings met are the first of those that were to come
-pub went-first : {sheet s : List ℕ} {first d : Trail} {ms fs : List Finding} → Went sheet s first ms d → Onward sheet s first fs → length ms ≤ length fs → take (length ms) fs ≡ ms
+pub went-first : {sheet numbers s : List ℕ} {first d : Trail} {ms fs : List Finding} → Went sheet numbers s first ms d → Onward sheet numbers s first fs → length ms ≤ length fs → take (length ms) fs ≡ ms
 went-first {ms = ms} w k h = let p = went-passed w k h in ap (take (length ms)) (p .all) ∙ take-append-seam ms (p .rest)
-
--- ---- the first of all findings
-
--- the trail sought from the line after the header on is at the first of all
-pub first-sought : {sheet s : List ℕ} {names : Table} {c : Trail} (e : ℕ) → e ≡ endOf 10 sheet 0 → Places names → Roomy names → Sought sheet s names (e + 1) 2 0 c → First sheet s names c
-first-sought {sheet} {s} {names} e ends p h z = record {
-  going = z .going;
-  onward = λ x fs o n a.
-      let counts : countsOf (x .names) ≡ names .counts = ap countsOf n ∙ counts-of sheet names p h in
-      z .onward fs (record {
-        said = x;
-        done = [];
-        passing = passing-start sheet names x e ends o n;
-        number = refl;
-        findings = subst (λ (m : Counts). FindingsFrom (Holds width m s) m 0 (x .rules) fs) counts a;
-      });
-}

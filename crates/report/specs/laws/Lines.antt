@@ -1,11 +1,11 @@
 -- Laws of the printed lines. Assumes nothing.
 use mathlib.Core.Path.{_≡_, refl, sym, ap, ap₂, _∙_}
-use mathlib.Core.Logic.{⊎-elim}
+use mathlib.Core.Logic.{⊎-elim, by-cases}
 use mathlib.Core.List.{List, [], _∷_, _++_, append-assoc}
-use Prim.Native.Nat.{ℕ, zero, suc, _-_, _/_, _%_, _≤_, _<_}
+use Prim.Native.Nat.{ℕ, zero, suc, _+_, _-_, _/_, _%_, _≤_}
+use native.Mathlib.Decide.{decLt}
 use native.Mathlib.Omega.{arith}
-use lib.ListN.{length, getD, take, drop, length-take, List·getD-map, List·getD-eq-default}
-use lib.Seq.{getD-take}
+use lib.ListN.{length, getD, take, drop, length-take, List·getD-eq-default}
 use Rattle.text.specs.own.Split.{partOf}
 use Rattle.logic.specs.Number.{One}
 use Rattle.logic.specs.Number.One.{first, later}
@@ -18,38 +18,26 @@ use Rattle.rule.specs.Findings.{Findings}
 use Rattle.field.specs.Names.{Names}
 use Rattle.sheet.specs.Promise.{findingText, findingsText}
 use Rattle.sheet.specs.Said.{Said, lineOf}
-use Rattle.field.specs.own.Table.{entered, nameAt}
-use Rattle.field.specs.laws.Tag.{tag-none, tagged-own, tagged-short}
+use Rattle.field.specs.own.Table.{entered, lengthCount, placeCount, taggedCount}
+use Rattle.field.specs.laws.Table.{entered-at, entered-length}
+use Rattle.field.specs.laws.Tag.{tagged-short}
 use Rattle.report.specs.own.Lines.{lineText, linesText}
 
 -- ---- names
 
--- the entry 0 has no name
-no-name : (sheet : List ℕ) → nameAt sheet 0 ≡ []
-no-name sheet = tagged-own 0 [] (sym (tag-none [] refl))
+-- the name with the number i, of n names by their entries
+module _ (sheet numbers : List ℕ) (from n : ℕ) (room : from + n ≤ length numbers) (i : ℕ) where
+  -- there is none past them
+  pub name-none : n ≤ i → [] ≡ getD (entered sheet numbers from n) i []
+  name-none h = sym (List·getD-eq-default (entered sheet numbers from n) [] (omega (arith, entered-length sheet numbers from n room)))
 
-module _ (sheet : List ℕ) (n : ℕ) (entries : List ℕ) (i : ℕ) where
-  -- the name with the number i is that of its entry, and there is no name of none
-  name-of : getD (entered sheet n entries) i [] ≡ nameAt sheet (getD (take n entries) i 0)
-  name-of = ap (λ (d : List ℕ). getD (entered sheet n entries) i d) (sym (no-name sheet)) ∙ List·getD-map (nameAt sheet) (take n entries) i 0
-
-  pub name-at : i < n → nameAt sheet (getD entries i 0) ≡ getD (entered sheet n entries) i []
-  name-at h = sym (name-of ∙ ap (nameAt sheet) (getD-take n entries i 0 h))
-
-  none-of : length (take n entries) ≤ i → [] ≡ getD (entered sheet n entries) i []
-  none-of h = sym (name-of ∙ ap (nameAt sheet) (List·getD-eq-default (take n entries) 0 h) ∙ no-name sheet)
-
-  pub name-none : n ≤ i → [] ≡ getD (entered sheet n entries) i []
-  name-none h = none-of (omega (arith, length-take n entries))
-
-  pub name-out : length entries ≤ i → [] ≡ getD (entered sheet n entries) i []
-  name-out h = none-of (omega (arith, length-take n entries))
-
-  -- a name has at most 31 bytes
-  pub name-short : length (getD (entered sheet n entries) i []) ≤ 31
-  name-short =
-      let p : ℕ = getD (take n entries) i 0 in
-      omega (arith, ap length name-of, tagged-short (p / 2097152) (partOf sheet (p / 32 % 65536) (p % 32)), length-take (p % 32) (drop (p / 32 % 65536) sheet))
+  -- it has at most 31 bytes
+  pub name-short : length (getD (entered sheet numbers from n) i []) ≤ 31
+  name-short = by-cases (decLt i n)
+      (λ l.
+      let p : ℕ = getD numbers (from + i) 0 in
+      omega (arith, ap length (entered-at sheet numbers from n room i l), tagged-short (p / taggedCount) (partOf sheet (p / lengthCount % placeCount) (p % lengthCount)), length-take (p % lengthCount) (drop (p / lengthCount % placeCount) sheet)))
+      (λ l. omega (arith, ap length (name-none (omega arith))))
 
 -- ---- lines
 

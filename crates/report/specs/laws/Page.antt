@@ -12,7 +12,6 @@ use Rattle.store.specs.Layout.{size, width}
 use Rattle.store.specs.laws.Cells.{keeps-unique}
 use Rattle.sheet.specs.declared.Ended.{Ended}
 use Rattle.sheet.specs.declared.RuleLine.{RuleLine}
-use Rattle.field.specs.declared.Table.{Table}
 use Rattle.field.specs.Names.{countsOf}
 use Rattle.sheet.specs.own.Pass.{Judges, foundRule}
 use Rattle.sheet.specs.declared.Reading.the-variants as reading
@@ -20,8 +19,8 @@ use Rattle.sheet.specs.Promise.{FindingsIn, Held, Leaves, Prints, refusedText, 
 use Rattle.sheet.specs.Promise.Prints.{refused, accepted}
 use Rattle.sheet.specs.Promise.Reads.{wrong-size as wrong-read, refused as refusedRead, accepted as acceptedRead}
 use Rattle.sheet.specs.Said.{Outcome, Said, SheetRule, outcome}
-use Rattle.sheet.specs.own.Stands.{Opens}
-use Rattle.field.specs.own.Table.{namesOf}
+use Rattle.sheet.specs.own.Stands.{Opens, keptTable}
+use Rattle.field.specs.own.Table.{Table, namesOf}
 use Rattle.sheet.specs.laws.Unique.{prints-unique, reads-unique}
 use Rattle.sheet.specs.laws.Count.{Turn, opens-held, opens-judges, opens-outcome, turn-rules}
 use Rattle.report.specs.declared.Tally.{Tally}
@@ -35,17 +34,17 @@ pub turn-printed : {sheet : List ℕ} {t : Table} {x : Said} {s room mid exit : 
     → countsOf (x .names) ≡ t .counts → x .names ≡ namesOf sheet t → Tallied s (t .counts) n (q .rule) (namesOf sheet t) (q .line) mid b exit r → Printed x s (w .done ++ foundRule q ∷ []) room at exit r
 turn-printed {q = q} w f c m z = let y = turn-rules w f in printed-more (foundRule q) (y .0) (y .1) (w .holds) (rw (c, m, ← w .number) z)
 
-module _ {sheet t : List ℕ} {e : Ended} (w : Filled sheet t e) where
+module _ {sheet numbers t : List ℕ} {e : Ended} (w : Filled sheet numbers t e) where
   -- a refused sheet
   pub page-refused : {room exit : List ℕ} {r : ℕ} → (e .why ≡ 0 → ⊥) → Wrote room 0 (refusedText (e .line) (e .why)) exit r → Pages sheet room exit r
   page-refused z h = record { text = refusedText (e .line) (e .why); prints = refused {n = e .line} {k = e .why} {x = w .opens .said} (w .opens .ends ∙ rw (ne-eqb _ _ z)); wrote = h }
 
   -- an accepted one
   module _ (z : e .why ≡ 0) where
-    pub page-judges : Judges sheet (e .kept .table) t
-    page-judges = opens-judges (w .opens) z (w .places)
+    pub page-judges : Judges sheet (keptTable numbers e) t
+    page-judges = opens-judges (w .opens) z
 
-    pub page-accepted : {room mid exit : List ℕ} {b : Tally} {r : ℕ} → Words 64 t → JudgedAll sheet (e .kept .table) t room mid b → Wrote mid (b .at) (totalText (b .total)) exit r → Pages sheet room exit r
+    pub page-accepted : {room mid exit : List ℕ} {b : Tally} {r : ℕ} → Words 64 t → JudgedAll sheet (keptTable numbers e) t room mid b → Wrote mid (b .at) (totalText (b .total)) exit r → Pages sheet room exit r
     page-accepted u j h =
         let o = opens-outcome (w .opens) z in
         let a = printed-all o u (opens-held (w .opens) z) (j .printed (w .opens .said) o (w .opens .names)) h in
@@ -65,7 +64,7 @@ pub page-size : {sheet s room exit : List ℕ} {r : ℕ} → ¬ (length s ≡ si
 page-size z h = record { text = refusedText 0 1; prints = wrong-size z; left = record { answer = reading.Refused 0 1; reads = wrong-read z refl }; wrote = h }
 
 -- a store that the sheet was read into
-pub page-read : {sheet s t room exit : List ℕ} {e : Ended} {r : ℕ} → length s ≡ size width → Words 64 t → Opens sheet s t e → Pages sheet room exit r → PagesIn sheet s t room exit r
+pub page-read : {sheet s numbers t room exit : List ℕ} {e : Ended} {r : ℕ} → length s ≡ size width → Words 64 t → Opens sheet s numbers t e → Pages sheet room exit r → PagesIn sheet s t room exit r
 page-read {s = s} {t = t} l v w p =
     record {
       text = p .text;
@@ -73,14 +72,6 @@ page-read {s = s} {t = t} l v w p =
       left = leaves-read l v (subst (λ (z : Outcome). Leaves z s t) (sym (w .ends)) (w .leaves)) (p .prints);
       wrote = p .wrote;
     }
-
--- the text in a store of the right length is that of the sheet
-pub page-own : {sheet s t room exit : List ℕ} {r : ℕ} → length s ≡ size width → PagesIn sheet s t room exit r → Pages sheet room exit r
-page-own {sheet} {s} l p = record { text = p .text; prints = own (p .prints); wrote = p .wrote }
-  where
-    own : {text : List ℕ} → PrintsIn sheet s text → Prints sheet text
-    own (wrong-size z) = absurd (z l)
-    own (printed h q) = q
 
 -- ---- one result
 

@@ -14,12 +14,11 @@ use Rattle.text.specs.Bytes.{bytes}
 use Rattle.text.specs.Text.{decimal, Wrote}
 use Rattle.field.specs.Names.{Names, countsOf}
 use Rattle.sheet.specs.declared.Ended.{Ended}
-use Rattle.field.specs.declared.Table.{Table}
 use Rattle.sheet.specs.Promise.{FindingsFrom, findingsText, printLimit, secondText, tabbed}
 use Rattle.sheet.specs.Said.{Said, SheetRule, outcome}
 use Rattle.sheet.specs.Said.Outcome.{accepted}
 use Rattle.sheet.specs.own.Stands.{Opens}
-use Rattle.field.specs.own.Table.{namesOf, Places}
+use Rattle.field.specs.own.Table.{Table, namesOf}
 use Rattle.report.specs.declared.Tally.{Tally}
 
 -- `finding`, the line number, item, second item if any
@@ -68,8 +67,7 @@ pub record JudgedAll (sheet : List ℕ) (t : Table) (s : List ℕ) (room exit : 
   pub printed : (x : Said) → outcome sheet ≡ accepted x → x .names ≡ namesOf sheet t → Printed x s (x .rules) room 0 exit r
   pub near : r .at ≤ findingBound * printLimit
 
--- the store t was filled with the sheet, whose lines ended so
-pub record Filled (sheet t : List ℕ) (e : Ended) : Type 0 where
+-- the numbers lent for names and the store t were filled with the sheet, whose lines ended so
+pub record Filled (sheet numbers t : List ℕ) (e : Ended) : Type 0 where
   pub store : List ℕ
-  pub opens : Opens sheet store t e
-  pub places : Places (e .kept .table)
+  pub opens : Opens sheet store numbers t e

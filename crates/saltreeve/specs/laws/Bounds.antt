@@ -95,7 +95,7 @@ record Sound (s : Said) : Type 0 where
 saying-sound : (k : ℕ) (s : Said) (f : Form) (fs : List Field) → Accepted (s .names) (marksOf s) f fs → Sound s → Sound (saying k s f fs)
 saying-sound k s form.Concept fs a h =
     let z = concept-new (s .names) (at 0 fs) (right-first (s .names) due.NewConcept [] fs refl (a .right) .0) in
-    record { few = omega (arith, z .1, length-append (s .names .concepts) (at 0 fs ∷ [])); rules = h .rules }
+    record { few = omega (arith, z .few, length-append (s .names .concepts) (at 0 fs ∷ [])); rules = h .rules }
 saying-sound k s form.Role fs a h = record { few = h .few; rules = h .rules }
 saying-sound k s form.Item fs a h = record { few = h .few; rules = h .rules }
 saying-sound k s (form.Statement w) fs a h = record { few = h .few; rules = h .rules }

@@ -5,7 +5,9 @@ use Prim.Native.Nat.{ℕ, _≤_}
 use lib.IntN.{ℤ, pos}
 use lib.ListN.{length, drop, take}
 use Rattle.row.specs.Bit.{Words}
-use Rattle.text.specs.laws.Text.{wrote-text}
+use native.Mathlib.Omega.{arith}
+use Rattle.text.specs.Text.{Wrote}
+use Rattle.text.specs.laws.Text.{wrote-text, wrote-whole}
 use Rattle.sheet.specs.Promise.{Prints}
 use Rattle.sheet.specs.laws.Unique.{prints-unique}
 use Rattle.report.specs.Promise.{Pages, PagesIn, PrintsIn, textLimit}
@@ -13,6 +15,7 @@ use Rattle.report.specs.laws.Page.{prints-in-unique, read-into-unique}
 use Rattle.report.specs.laws.Short.{prints-in-short, prints-short}
 use Rattle.saltreeve.specs.Check.{Checks, ChecksIn}
 use Rattle.handover.specs.Room.{InRoom}
+use Rattle.handover.specs.Room.InRoom.{written}
 use Rattle.handover.specs.own.Room.{Just}
 use Rattle.handover.specs.laws.Room.{in-room, room-unique, room-written}
 
@@ -24,6 +27,19 @@ module _ {sheet own page room exit : List ℕ} {n : ℕ} {r : ℤ} where
 
   pub check-in-by : {s t : List ℕ} → PagesIn sheet s t own page n → n ≤ length own → InRoom (Just (take n page)) room exit r → ChecksIn sheet s t room exit r
   check-in-by {s} w l h = record { store = w .left; text = in-room (subst (PrintsIn sheet s) (sym (wrote-text (w .wrote) l)) (w .prints)) h }
+
+-- the text was written into a room that is long enough for it
+in-place : {room exit : List ℕ} {n : ℕ} {Text : List ℕ → Type 0} {text : List ℕ} → Text text → Wrote room 0 text exit n → n ≤ length room → InRoom Text room exit (pos n)
+in-place {room} {exit} {n} {Text} {text} h w l =
+    let e : length text ≡ n = omega (arith, w .next) in
+    subst (λ (i : ℕ). InRoom Text room exit (pos i)) e (written h (omega arith) (wrote-whole w (omega arith)))
+
+module _ {sheet room exit : List ℕ} {n : ℕ} where
+  pub check-in-place : Pages sheet room exit n → n ≤ length room → Checks sheet room exit (pos n)
+  check-in-place w l = in-place (w .prints) (w .wrote) l
+
+  pub check-in-in-place : {s t : List ℕ} → PagesIn sheet s t room exit n → n ≤ length room → ChecksIn sheet s t room exit (pos n)
+  check-in-in-place w l = record { store = w .left; text = in-place (w .prints) (w .wrote) l }
 
 -- ---- one result
 

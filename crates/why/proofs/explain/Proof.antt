@@ -6,7 +6,6 @@ use Rattle.store.specs.Cell.{cellOf}
 use Rattle.store.specs.laws.Laid.{laid-of}
 use Rattle.sheet.specs.Promise.Reads.{wrong-size}
 use Rattle.sheet.specs.laws.Count.{opens-judges}
-use Rattle.field.specs.own.Table.{Places}
 use Rattle.why.specs.Promise.Explains.{refused}
 use Rattle.why.specs.laws.Explained.{explains-asked, explains-found, explains-not, explains-refused}
 use borrow.Author.Needs.{needs}
@@ -16,23 +15,24 @@ use Rattle.why.proofs.explain.Tie as tie
 returns : tie.Need-returns
 returns c = refused (wrong-size (c .if1 .taken) refl) refl
 
+slice-aggregate-fill : tie.Need-slice-aggregate-fill
+slice-aggregate-fill c = search needs
+
 fill-requires : tie.Need-fill-requires
-fill-requires c κs = search needs
+fill-requires c κs = (omega arith, refl)
 
 same-length : tie.Need-same-length
 same-length c = search needs
 
 returns-2 : tie.Need-returns-2
-returns-2 c = explains-refused (c .before .before .before .before .fill .ensures) (c .before .before .before .before .before .before .if1 .left) (cellOf (c .before .before .before .before .before .before .before .before .before .before .args .cell)) (c .before .before .before .before .before .before .before .before .before .before .args .room .now) (c .if2 .taken)
+returns-2 c = explains-refused (c .before .before .before .before .before .fill .ensures) (c .before .before .before .before .before .before .before .before .if1 .left) (cellOf (c .before .before .before .before .before .before .before .before .before .before .before .before .args .cell)) (c .before .before .before .before .before .before .before .before .before .before .before .before .args .room .now) (c .if2 .taken)
 
 layout-requires : tie.Need-layout-requires
 layout-requires c κs = search needs
 
 told-requires : tie.Need-told-requires
 told-requires c κs =
-    let g = c .before .before .before .before .before .before .before .before .before .fill .ok in
-    let p : Places (c .before .before .before .before .before .before .before .before .before .fill .result .kept .table) = record { concepts = search needs; roles = search needs; items = search needs } in
-    let s = opens-judges (c .before .before .before .before .before .before .before .before .before .fill .ensures) (c .before .before .before .before .before .if2 .left) p .store in
+    let s = opens-judges (c .before .before .before .before .before .before .before .before .before .fill .ensures) (c .before .before .before .before .if2 .left) .store in
     (laid-of (c .layout .ensures) (s .long) (omega arith), rw (c .layout .ensures) s)
 
 same-length-2 : tie.Need-same-length-2
@@ -40,15 +40,14 @@ same-length-2 c = search needs
 
 returns-3 : tie.Need-returns-3
 returns-3 c =
-    let g = c .before .before .before .before .before .before .before .before .before .before .before .fill .ok in
-    let p : Places (c .before .before .before .before .before .before .before .before .before .before .before .fill .result .kept .table) = record { concepts = search needs; roles = search needs; items = search needs } in
-    explains-not (c .before .before .before .before .before .before .before .before .before .before .before .fill .ensures) (c .before .before .before .before .before .before .before .before .before .before .before .before .before .if1 .left) (cellOf (c .before .before .before .before .before .before .before .before .before .before .before .before .before .before .before .before .before .args .cell)) (c .before .before .before .before .before .before .before .before .before .before .before .before .before .before .before .before .before .args .room .now) (c .before .before .before .before .before .before .before .if2 .left) p ((rw (c .before .before .layout .ensures) at (c .before .told .ensures)) .fails (not-true _ (c .if3 .taken)))
+    explains-not (c .before .before .before .before .before .before .before .before .before .before .before .fill .ensures) (c .before .before .before .before .before .before .before .before .before .before .before .before .before .before .if1 .left) (cellOf (c .before .before .before .before .before .before .before .before .before .before .before .before .before .before .before .before .before .before .args .cell)) (c .before .before .before .before .before .before .before .before .before .before .before .before .before .before .before .before .before .before .args .room .now) (c .before .before .before .before .before .before .if2 .left) ((rw (c .before .before .layout .ensures) at (c .before .told .ensures)) .fails (not-true _ (c .if3 .taken)))
+
+slice-aggregate-list : tie.Need-slice-aggregate-list
+slice-aggregate-list c = search needs
 
 list-requires : tie.Need-list-requires
 list-requires c κs =
-    let g = c .before .before .before .before .before .before .before .before .before .before .before .before .fill .ok in
-    let p : Places (c .before .before .before .before .before .before .before .before .before .before .before .before .fill .result .kept .table) = record { concepts = search needs; roles = search needs; items = search needs } in
-    explains-asked (c .before .before .before .before .before .before .before .before .before .before .before .before .fill .ensures) (c .before .before .before .before .before .before .before .before .before .before .before .before .before .before .if1 .left) (cellOf (c .before .before .before .before .before .before .before .before .before .before .before .before .before .before .before .before .before .before .args .cell)) (c .before .before .before .before .before .before .before .before .before .before .before .before .before .before .before .before .before .before .args .room .now) (c .before .before .before .before .before .before .before .before .if2 .left) p ((rw (c .before .before .before .layout .ensures) at (c .before .before .told .ensures)) .holds (not-false _ (c .before .if3 .left)))
+    explains-asked (c .before .before .before .before .before .before .before .before .before .before .before .before .before .fill .ensures) (c .before .before .before .before .before .before .before .before .before .before .before .before .before .before .before .before .if1 .left) (cellOf (c .before .before .before .before .before .before .before .before .before .before .before .before .before .before .before .before .before .before .before .before .args .cell)) (c .before .before .before .before .before .before .before .before .before .before .before .before .before .before .before .before .before .before .before .before .args .room .now) (c .before .before .before .before .before .before .before .before .if2 .left) ((rw (c .before .before .before .before .layout .ensures) at (c .before .before .before .told .ensures)) .holds (not-false _ (c .before .before .if3 .left)))
 
 same-length-3 : tie.Need-same-length-3
 same-length-3 c = search needs
@@ -58,15 +57,14 @@ same-length-4 c = search needs
 
 returns-4 : tie.Need-returns-4
 returns-4 c =
-    let g = c .before .before .before .before .before .before .before .before .before .before .before .before .before .before .before .fill .ok in
-    let p : Places (c .before .before .before .before .before .before .before .before .before .before .before .before .before .before .before .fill .result .kept .table) = record { concepts = search needs; roles = search needs; items = search needs } in
-    explains-found (c .before .before .before .before .before .before .before .before .before .before .before .before .before .before .before .fill .ensures) (c .before .before .before .before .before .before .before .before .before .before .before .before .before .before .before .before .before .if1 .left) (cellOf (c .before .before .before .before .before .before .before .before .before .before .before .before .before .before .before .before .before .before .before .before .before .args .cell)) (c .before .before .before .before .before .before .before .before .before .before .before .before .before .before .before .before .before .before .before .before .before .args .room .now) (c .before .before .before .before .before .before .before .before .before .before .before .if2 .left) p (c .before .before .list .ensures)
+    explains-found (c .before .before .before .before .before .before .before .before .before .before .before .before .before .before .before .before .fill .ensures) (c .before .before .before .before .before .before .before .before .before .before .before .before .before .before .before .before .before .before .before .if1 .left) (cellOf (c .before .before .before .before .before .before .before .before .before .before .before .before .before .before .before .before .before .before .before .before .before .before .before .args .cell)) (c .before .before .before .before .before .before .before .before .before .before .before .before .before .before .before .before .before .before .before .before .before .before .before .args .room .now) (c .before .before .before .before .before .before .before .before .before .before .before .if2 .left) (c .before .before .list .ensures)
 
 pub explain-spec : {M : Type 1} → statement M
 explain-spec =
     tie.close
     (tie.spec
     returns
+    slice-aggregate-fill
     fill-requires
     same-length
     returns-2
@@ -74,6 +72,7 @@ explain-spec =
     told-requires
     same-length-2
     returns-3
+    slice-aggregate-list
     list-requires
     same-length-3
     same-length-4

@@ -9,10 +9,10 @@ use Rattle.why.proofs.list.Statement.{statement}
 use Rattle.why.proofs.list.Tie as tie
 
 reasoned-requires : tie.Need-reasoned-requires
-reasoned-requires c κs = (c .before .before .before .pre, length-replicate {A = ℕ} markWords 0, clear-zeros markWords)
+reasoned-requires c κs = (c .before .before .before .before .pre, length-replicate {A = ℕ} markWords 0, clear-zeros markWords)
 
 write-requires : tie.Need-write-requires
-write-requires c κs = search needs
+write-requires c κs = (c .before .before .before .before .before .before .before .pre .tidy, c .before .before .before .before .before .before .before .pre .sheetSaid)
 
 same-length : tie.Need-same-length
 same-length c = search needs

@@ -3,6 +3,7 @@ use mathlib.Core.Path.{_≡_, refl, _∙_}
 use Prim.Native.Nat.{_+_, _-_, _≤_}
 use native.Mathlib.Omega.{arith}
 use lib.ListN.{length}
+use Rattle.field.specs.own.Table.{tableOf}
 use Rattle.sheet.specs.laws.Pass.{accepted-start}
 use Rattle.why.specs.own.Asked.{Of}
 use Rattle.why.specs.own.Stating.{foundStatement}
@@ -13,31 +14,32 @@ use Rattle.why.proofs.write.Statement.{statement}
 use Rattle.why.proofs.write.Tie as tie
 
 abbrev Inv-loop : tie.InvT-loop
-Inv-loop sheet t marks list₀ q₀ n₀ total₀ list q n total = Of sheet t (λ x. Turn sheet t x (Putting marks list₀ list total) q n) × (n ≤ q .past) × (q .past ≤ length sheet + 2) × (total ≤ n) × (length list ≡ length list₀)
+Inv-loop sheet names counts marks list₀ q₀ n₀ total₀ list q n total =
+    Of sheet (tableOf names counts) (λ x. Turn sheet (tableOf names counts) x (Putting marks list₀ list total) q n) × (n ≤ q .past) × (q .past ≤ length sheet + 2) × (total ≤ n) × (length list ≡ length list₀)
 
 abbrev μ-loop : tie.MeasureT-loop
-μ-loop sheet t marks list₀ q₀ n₀ total₀ list q n total = length sheet + 2 - q .past
+μ-loop sheet names counts marks list₀ q₀ n₀ total₀ list q n total = length sheet + 2 - q .past
 
 first-requires : tie.Need-first-requires Inv-loop μ-loop
-first-requires c κs = (c .before .before .pre .0, c .before .before .pre .1)
+first-requires c κs = (c .before .before .before .pre .0, c .before .before .before .pre .1)
 
 loop-holds : tie.Need-loop-holds Inv-loop μ-loop
 loop-holds c = ((λ x o m. turn-start (c .first .ensures) o m putting-none), omega arith, c .first .ensures .inside, omega arith, refl)
 
 has-requires : tie.Need-has-requires Inv-loop μ-loop
-has-requires c κs = turn-few ((c .before .before .loop .inv .0) _ (c .before .before .before .before .before .before .pre .1 .ends) (c .before .before .before .before .before .before .pre .1 .names)) (c .before .loop-test .taken) (c .before .before .before .before .before .before .pre .1 .ends)
+has-requires c κs = turn-few ((c .before .before .loop .inv .0) _ (c .before .before .before .before .before .before .before .pre .1 .ends) (c .before .before .before .before .before .before .before .pre .1 .names)) (c .before .loop-test .taken) (c .before .before .before .before .before .before .before .pre .1 .ends)
 
 put-requires : tie.Need-put-requires Inv-loop μ-loop
-put-requires c κs = (omega (arith, (c .before .before .before .loop .inv .1), (c .before .before .before .loop .inv .2), (c .before .before .before .loop .inv .3), accepted-start _ _ (c .before .before .before .before .before .before .before .pre .1 .ends) .0), omega (arith, turn-paused ((c .before .before .before .loop .inv .0) _ (c .before .before .before .before .before .before .before .pre .1 .ends) (c .before .before .before .before .before .before .before .pre .1 .names)) (c .before .before .loop-test .taken) .passing .near, (c .before .before .before .loop .inv .2), accepted-start _ _ (c .before .before .before .before .before .before .before .pre .1 .ends) .0))
+put-requires c κs = (omega (arith, (c .before .before .before .loop .inv .1), (c .before .before .before .loop .inv .2), (c .before .before .before .loop .inv .3), accepted-start _ _ (c .before .before .before .before .before .before .before .before .pre .1 .ends) .0), omega (arith, turn-paused ((c .before .before .before .loop .inv .0) _ (c .before .before .before .before .before .before .before .before .pre .1 .ends) (c .before .before .before .before .before .before .before .before .pre .1 .names)) (c .before .before .loop-test .taken) .passing .near, (c .before .before .before .loop .inv .2), accepted-start _ _ (c .before .before .before .before .before .before .before .before .pre .1 .ends) .0))
 
 add-n : tie.Need-add-n Inv-loop μ-loop
-add-n c = omega (arith, (c .before .before .before .before .before .before .loop .inv .1), (c .before .before .before .before .before .before .loop .inv .2), accepted-start _ _ (c .before .before .before .before .before .before .before .before .before .before .pre .1 .ends) .0)
+add-n c = omega (arith, (c .before .before .before .before .before .before .loop .inv .1), (c .before .before .before .before .before .before .loop .inv .2), accepted-start _ _ (c .before .before .before .before .before .before .before .before .before .before .before .pre .1 .ends) .0)
 
 add-next : tie.Need-add-next Inv-loop μ-loop
-add-next c = omega (arith, turn-paused ((c .before .before .before .before .before .before .before .loop .inv .0) _ (c .before .before .before .before .before .before .before .before .before .before .before .pre .1 .ends) (c .before .before .before .before .before .before .before .before .before .before .before .pre .1 .names)) (c .before .before .before .before .before .before .loop-test .taken) .passing .near, (c .before .before .before .before .before .before .before .loop .inv .2), accepted-start _ _ (c .before .before .before .before .before .before .before .before .before .before .before .pre .1 .ends) .0)
+add-next c = omega (arith, turn-paused ((c .before .before .before .before .before .before .before .loop .inv .0) _ (c .before .before .before .before .before .before .before .before .before .before .before .before .pre .1 .ends) (c .before .before .before .before .before .before .before .before .before .before .before .before .pre .1 .names)) (c .before .before .before .before .before .before .loop-test .taken) .passing .near, (c .before .before .before .before .before .before .before .loop .inv .2), accepted-start _ _ (c .before .before .before .before .before .before .before .before .before .before .before .before .pre .1 .ends) .0)
 
 next-requires : tie.Need-next-requires Inv-loop μ-loop
-next-requires c κs = ((c .before .before .before .before .before .before .before .before .before .before .before .pre .0), turn-paused ((c .before .before .before .before .before .before .before .loop .inv .0) _ (c .before .before .before .before .before .before .before .before .before .before .before .pre .1 .ends) (c .before .before .before .before .before .before .before .before .before .before .before .pre .1 .names)) (c .before .before .before .before .before .before .loop-test .taken))
+next-requires c κs = ((c .before .before .before .before .before .before .before .before .before .before .before .before .pre .0), turn-paused ((c .before .before .before .before .before .before .before .loop .inv .0) _ (c .before .before .before .before .before .before .before .before .before .before .before .before .pre .1 .ends) (c .before .before .before .before .before .before .before .before .before .before .before .before .pre .1 .names)) (c .before .before .before .before .before .before .loop-test .taken))
 
 loop-less : tie.Need-loop-less Inv-loop μ-loop
 loop-less c = omega (arith, (c .next .ensures .later), (c .next .ensures .inside))

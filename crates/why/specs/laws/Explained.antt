@@ -7,14 +7,13 @@ use Rattle.store.specs.declared.Counts.{Counts}
 use Rattle.store.specs.Cell.{Cell}
 use Rattle.store.specs.Layout.{Holds, size, width}
 use Rattle.sheet.specs.declared.Ended.{Ended}
-use Rattle.field.specs.declared.Table.{Table}
 use Rattle.field.specs.Names.{countsOf}
 use Rattle.sheet.specs.own.Pass.{Accepts}
 use Rattle.sheet.specs.Said.{Said}
-use Rattle.sheet.specs.own.Stands.{Opens}
+use Rattle.sheet.specs.own.Stands.{Opens, keptTable}
 use Rattle.sheet.specs.laws.Count.{opens-held, opens-outcome, whole-refused}
 use Rattle.sheet.specs.laws.Pass.{saidOf}
-use Rattle.field.specs.own.Table.{Places}
+use Rattle.field.specs.own.Table.{Table}
 use Rattle.sheet.specs.laws.Stands.{counts-of}
 use Rattle.why.specs.declared.Explained.the-variants.{Lines, Refused}
 use Rattle.why.specs.own.Asked.{Asked, Of, ReasonMarked}
@@ -29,37 +28,37 @@ pub answered : {sheet : List ℕ} {t : Table} {c : Cell} {marks before after : L
 answered {marks = marks} h l x o m = record { lines = picked marks (x .statements); reason = h x o m; listed = l .listed x o m; total = l .total x o m }
 
 -- the table counts the names of the sheet
-pub opens-counts : {sheet s u : List ℕ} {e : Ended} (w : Opens sheet s u e) → Places (e .kept .table) → countsOf (w .said .names) ≡ e .kept .table .counts
-opens-counts {sheet} {e = e} w p = ap countsOf (w .names) ∙ counts-of sheet (e .kept .table) p (w .room)
+pub opens-counts : {sheet s numbers u : List ℕ} {e : Ended} (w : Opens sheet s numbers u e) → countsOf (w .said .names) ≡ e .kept .counts
+opens-counts {sheet} {numbers = numbers} {e = e} w = ap countsOf (w .names) ∙ counts-of sheet (keptTable numbers e) (w .tidy)
 
-module _ {sheet s u : List ℕ} {e : Ended} (w : Opens sheet s u e) (long : length s ≡ size width) (c : Cell) (before : List ℕ) where
+module _ {sheet s numbers u : List ℕ} {e : Ended} (w : Opens sheet s numbers u e) (long : length s ≡ size width) (c : Cell) (before : List ℕ) where
   -- a refused sheet
   pub explains-refused : (e .why ≡ 0 → ⊥) → Explains sheet s u c before before (Refused (e .line) (e .why))
   explains-refused z = refused (whole-refused long w z .reads) refl
 
   -- an accepted one
-  module _ (z : e .why ≡ 0) (p : Places (e .kept .table)) where
-    counts-are : countsOf (w .said .names) ≡ e .kept .table .counts
-    counts-are = opens-counts w p
+  module _ (z : e .why ≡ 0) where
+    counts-are : countsOf (w .said .names) ≡ e .kept .counts
+    counts-are = opens-counts w
 
-    explains-accepts : Accepts sheet (e .kept .table)
+    explains-accepts : Accepts sheet (keptTable numbers e)
     explains-accepts = record { said = w .said; ends = opens-outcome w z; names = w .names }
 
     -- the cell is not true
-    pub explains-not : ¬ (Holds width (e .kept .table .counts) u c) → Explains sheet s u c before before (Refused 0 24)
+    pub explains-not : ¬ (Holds width (e .kept .counts) u c) → Explains sheet s u c before before (Refused 0 24)
     explains-not h = not-true long (opens-outcome w z) (opens-held w z) (rw counts-are h) refl
 
     -- it is true: it follows
-    explains-followed : Holds width (e .kept .table .counts) u c → Of sheet (e .kept .table) (λ x. FollowsFrom (e .kept .table .counts) c (x .statements))
+    explains-followed : Holds width (e .kept .counts) u c → Of sheet (keptTable numbers e) (λ x. FollowsFrom (e .kept .counts) c (x .statements))
     explains-followed h x o m =
-        subst (λ (y : Said). FollowsFrom (e .kept .table .counts) c (y .statements)) (ap saidOf (sym (opens-outcome w z) ∙ o))
+        subst (λ (y : Said). FollowsFrom (e .kept .counts) c (y .statements)) (ap saidOf (sym (opens-outcome w z) ∙ o))
         (subst (λ (n : Counts). FollowsFrom n c (w .said .statements)) counts-are (opens-held w z .sound c (rw counts-are h)))
 
-    pub explains-asked : Holds width (e .kept .table .counts) u c → Asked sheet (e .kept .table) c
-    explains-asked h = record { room = w .room; sheetSaid = explains-accepts; follows = explains-followed h }
+    pub explains-asked : Holds width (e .kept .counts) u c → Asked sheet (keptTable numbers e) c
+    explains-asked h = record { tidy = w .tidy; sheetSaid = explains-accepts; follows = explains-followed h }
 
     -- a reason is found
-    pub explains-found : {after : List ℕ} {r : ℕ} → Answered sheet (e .kept .table) c before after r → Explains sheet s u c before after (Lines r)
+    pub explains-found : {after : List ℕ} {r : ℕ} → Answered sheet (keptTable numbers e) c before after r → Explains sheet s u c before after (Lines r)
     explains-found {after} h =
         let o = opens-outcome w z in
         let a = h (w .said) o (w .names) in

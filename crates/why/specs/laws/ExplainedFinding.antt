@@ -9,9 +9,8 @@ use Rattle.store.specs.Cell.Cell.{In}
 use Rattle.store.specs.Layout.{Holds, size, width}
 use Rattle.sheet.specs.declared.Ended.{Ended}
 use Rattle.field.specs.Names.{countsOf}
-use Rattle.sheet.specs.own.Stands.{Opens}
+use Rattle.sheet.specs.own.Stands.{Opens, keptTable}
 use Rattle.sheet.specs.laws.Count.{opens-held, opens-outcome, whole-refused}
-use Rattle.field.specs.own.Table.{Places}
 use Rattle.why.specs.declared.FindingExplained.the-variants.{Lines, Refused}
 use Rattle.why.specs.declared.Sides.{Sides}
 use Rattle.why.specs.Finding.{BrokenSub, ExplainsFinding, concept}
@@ -23,15 +22,15 @@ use Rattle.why.specs.Reason.{Reason}
 use Rattle.why.specs.laws.Explained.{explains-asked, opens-counts}
 use Rattle.why.specs.laws.Finding.{broken-in}
 
-module _ {sheet s u : List ℕ} {e : Ended} (w : Opens sheet s u e) (long : length s ≡ size width) (k a : ℕ) (before : List ℕ) where
+module _ {sheet s numbers u : List ℕ} {e : Ended} (w : Opens sheet s numbers u e) (long : length s ≡ size width) (k a : ℕ) (before : List ℕ) where
   -- a refused sheet
   pub finding-refused : (e .why ≡ 0 → ⊥) → ExplainsFinding sheet s u k a before before (Refused (e .line) (e .why))
   finding-refused z = refused (whole-refused long w z .reads) refl
 
   -- an accepted one
-  module _ (z : e .why ≡ 0) (p : Places (e .kept .table)) (r : Sides) (b : Breaking sheet (e .kept .table) u k a r) where
-    counts-are : countsOf (w .said .names) ≡ e .kept .table .counts
-    counts-are = opens-counts w p
+  module _ (z : e .why ≡ 0) (r : Sides) (b : Breaking sheet (keptTable numbers e) u k a r) where
+    counts-are : countsOf (w .said .names) ≡ e .kept .counts
+    counts-are = opens-counts w
 
     -- what was found of the rule
     here : BrokenIf (r .named) (countsOf (w .said .names)) (w .said) u k a r
@@ -46,11 +45,11 @@ module _ {sheet s u : List ℕ} {e : Ended} (w : Opens sheet s u e) (long : leng
       broken-here = subst (λ (y : Bool). BrokenIf y (countsOf (w .said .names)) (w .said) u k a r) t here
 
       -- the item is in the left concept: a reason can be asked for
-      pub finding-asked : Asked sheet (e .kept .table) (In a (r .left))
-      finding-asked = explains-asked w long (In a (r .left)) before z p (subst (λ (n : Counts). Holds width n u (In a (r .left))) counts-are (broken-in broken-here))
+      pub finding-asked : Asked sheet (keptTable numbers e) (In a (r .left))
+      finding-asked = explains-asked w long (In a (r .left)) before z (subst (λ (n : Counts). Holds width n u (In a (r .left))) counts-are (broken-in broken-here))
 
       -- it is found
-      pub finding-found : {after : List ℕ} {m : ℕ} → Answered sheet (e .kept .table) (In a (r .left)) before after m → ExplainsFinding sheet s u k a before after (Lines m (concept (r .right)))
+      pub finding-found : {after : List ℕ} {m : ℕ} → Answered sheet (keptTable numbers e) (In a (r .left)) before after m → ExplainsFinding sheet s u k a before after (Lines m (concept (r .right)))
       finding-found {after} h =
           let o = opens-outcome w z in
           let y = h (w .said) o (w .names) in

@@ -8,9 +8,9 @@ use lib.ListN.{length, length-append}
 use Rattle.text.specs.own.Split.{partOf, endOf, partsFrom}
 use Rattle.text.specs.Split.{fields, split}
 use Rattle.text.specs.laws.Split.{parts-all, parts-next}
+use Rattle.field.specs.own.Table.{Table}
 use Rattle.field.specs.declared.Form.{Form}
 use Rattle.field.specs.declared.Form.the-variants as form
-use Rattle.field.specs.declared.Table.{Table}
 use Rattle.line.specs.Fault.{lineFault}
 use Rattle.sheet.specs.Said.{Outcome, Said, lineSaid, marksOf, nothing, outcome, outcomeFrom, saying, SheetStatement}
 use Rattle.saying.specs.Read.{statementOf}

@@ -15,10 +15,9 @@ use Rattle.store.specs.declared.Statement.{Statement}
 use Rattle.store.specs.Cell.{Cell, Within, cellOf}
 use Rattle.closure.specs.Lines.{Stated}
 use Rattle.closure.specs.Lines.Stated.{stated}
-use Rattle.field.specs.declared.Table.{Table}
 use Rattle.field.specs.Names.{Names, countsOf}
 use Rattle.sheet.specs.Said.{SheetStatement, statementsOf}
-use Rattle.field.specs.own.Table.{Roomy, namesOf, Places}
+use Rattle.field.specs.own.Table.{Table, Tidy, namesOf}
 use Rattle.sheet.specs.laws.Stands.{counts-of}
 use Rattle.reason.specs.own.Code.{AllWithin, Coded, cellAt}
 use Rattle.reason.specs.own.Code.Coded.{coded}
@@ -128,8 +127,8 @@ module _ {n : Counts} where
   numbers-more codes i k l h e w m = rw (add-one, take-suc-set codes i k) (numbers-last k l e w m)
 
 -- a cell within the counts of the names is within those of the table
-pub within-table : (sheet : List ℕ) {t : Table} (names : Names) (c : Cell) → Places t → Roomy t → names ≡ namesOf sheet t → Within (countsOf names) c → Within (t .counts) c
-within-table sheet {t} names c p r e w = subst (λ (n : Counts). Within n c) (ap countsOf e ∙ counts-of sheet t p r) w
+pub within-table : (sheet : List ℕ) {t : Table} (names : Names) (c : Cell) → Tidy sheet t → names ≡ namesOf sheet t → Within (countsOf names) c → Within (t .counts) c
+within-table sheet {t} names c y e w = subst (λ (n : Counts). Within n c) (ap countsOf e ∙ counts-of sheet t y) w
 
 -- ---- the search among the numbers
 
@@ -140,7 +139,7 @@ module _ {sheet : List ℕ} {t : Table} {c : Cell} {codes : List ℕ} {r : ℕ} 
       let s = a .sheetSaid in
       let m = g .numbers (s .said) (s .ends) (s .names) in
       record {
-        fits = a .room;
+        fits = a .tidy .room;
         within = numbers-within m;
         few = omega (arith, length-take r codes, g .few);
         follows = lines-follow m (a .follows (s .said) (s .ends) (s .names));

@@ -2,10 +2,11 @@
 use mathlib.Core.Path.{_≡_, refl, sym, ap, _∙_, subst}
 use mathlib.Core.Bool.{Bool, true, false, cond, true≢false}
 use mathlib.Core.List.{List, [], _∷_, _++_}
-use Prim.Native.Nat.{ℕ, _+_, _-_, _≤_, _<_, zero-le}
+use Prim.Native.Nat.{ℕ, _+_, _≤_, _<_, zero-le}
 use native.Mathlib.Omega.{arith}
-use lib.ListN.{length, length-append}
-use Rattle.text.specs.own.Split.{partOf, endOf, partsFrom}
+use lib.ListN.{length, drop, length-append}
+use Rattle.text.specs.own.Scan.{lineAt}
+use Rattle.text.specs.own.Split.{endOf, partsFrom}
 use Rattle.text.specs.Bytes.{place, same}
 use Rattle.text.specs.Split.{fields, split}
 use Rattle.text.specs.laws.Split.{end-ge, end-le, parts-next, parts-none}
@@ -13,18 +14,19 @@ use Rattle.store.specs.Cell.{Within, cellOf}
 use Rattle.field.specs.declared.Form.{Form}
 use Rattle.field.specs.declared.Form.the-variants as form
 use Rattle.field.specs.declared.StatementWord.{StatementWord}
-use Rattle.field.specs.declared.Table.{Table}
 use Rattle.field.specs.Due.{dues, lineupOf}
-use Rattle.line.specs.Fault.{begun, lineFault, none}
+use Rattle.line.specs.Fault.{begun, lineFault, lineLimit, none}
 use Rattle.field.specs.Names.{Names, countsOf}
 use Rattle.sheet.specs.Said.{Outcome, Said, SheetStatement, lineSaid, marksOf, nothing, outcome, outcomeFrom, saying}
 use Rattle.saying.specs.Read.{statementOf}
 use Rattle.sheet.specs.Said.Outcome.{accepted}
-use Rattle.field.specs.own.Table.{namesOf}
+use Rattle.field.specs.own.Table.{Table, namesOf}
 use Rattle.field.specs.Words.{Field, bodyOf, formOf, lineForm}
 use Rattle.field.specs.laws.Right.{Right}
+use Rattle.field.specs.laws.Words.{body-words}
 use Rattle.line.specs.laws.Accepted.{line-accepted}
 use Rattle.saying.specs.laws.Stated.{statement-within}
+use Rattle.sheet.specs.laws.Taken.{right-short}
 use Rattle.sheet.specs.laws.Pass.{accepted-start, accepted-step, saidOf}
 use Rattle.sheet.specs.laws.Settled.{none-last, sheet-settled}
 use Rattle.why.specs.declared.StatementLine.{StatementLine}
@@ -75,6 +77,10 @@ statement-said : (k : ℕ) (s : Said) (l : List ℕ) (w : StatementWord) → for
 unfolding lineSaid
 statement-said k s l w e = rw (statement-some l w e, e)
 
+-- its fields after its word
+pub statement-body : (l : List ℕ) (w : StatementWord) → formOf (fields l) ≡ form.Statement w → drop 1 (fields l) ≡ bodyOf (fields l)
+statement-body l w e = rw e at (body-words (fields l) (λ u. let z : _≡_ {A = Form} form.Unknown (form.Statement w) = sym u ∙ e in let q : _≡_ {A = ℕ} 0 1 = cc in omega arith))
+
 -- once a statement was accepted, the sheet has begun
 statement-begun : (k : ℕ) (x : Said) (w : StatementWord) (fs : List Field) → begun (marksOf (saying k x (form.Statement w) fs)) ≡ true
 statement-begun k x w fs = rw none-last
@@ -90,11 +96,15 @@ module _ {sheet : List ℕ} {t : Table} {x : Said} {done : List SheetStatement} 
       ap (λ (o : Outcome). saidOf o .statements) (sym e) ∙ p .statements
 
   -- a line, and its end
-  module _ (e : ℕ) (l : List ℕ) (g : at ≤ length sheet) (ends : e ≡ endOf 10 sheet at) (is : l ≡ partOf sheet at (e - at)) where
+  module _ (e : ℕ) (l : List ℕ) (g : at ≤ length sheet) (ends : e ≡ endOf 10 sheet at) (is : l ≡ lineAt sheet at) where
     stepped : (lineFault (p .said .names) (marksOf (p .said)) l ≡ 0) × (outcomeFrom (k + 1) (lineSaid k (p .said) l) (partsFrom 10 sheet (e + 1)) ≡ accepted x)
     stepped =
-        let parted : partsFrom 10 sheet at ≡ l ∷ partsFrom 10 sheet (e + 1) = parts-next 10 sheet at g ∙ rw (← ends, ← is) in
+        let parted : partsFrom 10 sheet at ≡ l ∷ partsFrom 10 sheet (e + 1) = parts-next 10 sheet at g ∙ rw (is, ends) in
         accepted-step k (p .said) x l (partsFrom 10 sheet (e + 1)) (rw parted at (p .rest))
+
+    -- the line is not too long
+    pub passing-short : length l ≤ lineLimit
+    passing-short = right-short (p .said .names) (marksOf (p .said)) l (stepped .0)
 
     -- one statement more, with its word
     module _ (w : StatementWord) (f : formOf (fields l) ≡ form.Statement w) where

@@ -3,11 +3,10 @@ use mathlib.Core.Path.{_≡_}
 use mathlib.Core.List.{List}
 use Prim.Native.Nat.{ℕ}
 use Rattle.store.specs.Cell.{Cell}
-use Rattle.field.specs.declared.Table.{Table}
 use Rattle.sheet.specs.own.Pass.{Accepts}
 use Rattle.sheet.specs.Said.{Said, outcome}
 use Rattle.sheet.specs.Said.Outcome.{accepted}
-use Rattle.field.specs.own.Table.{Roomy, namesOf}
+use Rattle.field.specs.own.Table.{Table, Tidy, namesOf}
 use Rattle.reason.specs.own.Picked.{picked}
 use Rattle.why.specs.Reason.{FollowsFrom, Reason}
 
@@ -17,7 +16,7 @@ Of sheet t P = (x : Said) → outcome sheet ≡ accepted x → x .names ≡ name
 
 -- the sheet is accepted with the names of the table t, and the cell c follows from its statements
 pub record Asked (sheet : List ℕ) (t : Table) (c : Cell) : Type 0 where
-  pub room : Roomy t
+  pub tidy : Tidy sheet t
   pub sheetSaid : Accepts sheet t
   pub follows : Of sheet t (λ x. FollowsFrom (t .counts) c (x .statements))
 

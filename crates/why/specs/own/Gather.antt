@@ -5,7 +5,7 @@ use Prim.Native.Nat.{ℕ, _*_, _≤_}
 use lib.ListN.{length, take}
 use Rattle.store.specs.declared.Counts.{Counts}
 use Rattle.store.specs.Cell.{Within, cellOf}
-use Rattle.field.specs.declared.Table.{Table}
+use Rattle.field.specs.own.Table.{Table}
 use Rattle.sheet.specs.Said.{SheetStatement}
 use Rattle.reason.specs.own.Code.{cellAt}
 use Rattle.reason.specs.own.Picked.{markWords}

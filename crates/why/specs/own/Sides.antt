@@ -8,8 +8,8 @@ use Rattle.store.specs.declared.Counts.{Counts}
 use Rattle.rule.specs.declared.Node.{Node}
 use Rattle.rule.specs.declared.Node.the-variants as node
 use Rattle.rule.specs.declared.Rule.{Rule}
+use Rattle.field.specs.own.Table.{Table}
 use Rattle.sheet.specs.declared.RuleLine.{RuleLine}
-use Rattle.field.specs.declared.Table.{Table}
 use Rattle.sheet.specs.Said.{RuleAt, Said}
 use Rattle.why.specs.declared.NodeName.{NodeName}
 use Rattle.why.specs.declared.Sides.{Sides}

@@ -8,13 +8,12 @@ use Rattle.text.specs.own.Split.{partsFrom}
 use Rattle.store.specs.Cell.{Within, cellOf}
 use Rattle.field.specs.declared.Form.{Form}
 use Rattle.field.specs.declared.Form.the-variants as form
-use Rattle.field.specs.declared.Table.{Table}
 use Rattle.line.specs.Fault.{sheetLimit}
 use Rattle.field.specs.Names.{Names, countsOf}
 use Rattle.sheet.specs.Said.{Said, SheetStatement, outcome, outcomeFrom}
 use Rattle.saying.specs.Read.{statementOf}
 use Rattle.sheet.specs.Said.Outcome.{accepted}
-use Rattle.field.specs.own.Table.{namesOf}
+use Rattle.field.specs.own.Table.{Table, namesOf}
 use Rattle.field.specs.Words.{Field}
 use Rattle.why.specs.declared.StatementLine.{StatementLine}
 

@@ -6,7 +6,7 @@ use Prim.Native.Nat.{ℕ, _+_}
 use lib.ListN.{length, set}
 use Rattle.store.specs.declared.Counts.{Counts}
 use Rattle.store.specs.Cell.{Cell}
-use Rattle.field.specs.declared.Table.{Table}
+use Rattle.field.specs.own.Table.{Table}
 use Rattle.sheet.specs.Said.{Said, SheetStatement}
 use Rattle.reason.specs.own.Picked.{picked}
 use Rattle.why.specs.own.Asked.{Of}

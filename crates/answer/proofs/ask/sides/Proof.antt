@@ -5,6 +5,7 @@ use mathlib.Core.Bool.{false}
 use mathlib.Core.List.{List}
 use Prim.Native.Nat.{_+_, _-_, _≤_}
 use lib.ListN.{length}
+use Rattle.field.specs.own.Table.{tableOf}
 use Rattle.sheet.specs.Said.{SheetRule}
 use Rattle.sheet.specs.laws.Count.{Turn, turn-end, turn-next, turn-paused, turn-start}
 use Rattle.sheet.specs.laws.Pass.{accepted-start}
@@ -14,16 +15,17 @@ use Rattle.answer.proofs.ask.sides.Statement.{statement}
 use Rattle.answer.proofs.ask.sides.Tie as tie
 
 abbrev Inv-loop : tie.InvT-loop
-Inv-loop sheet t words f a q₀ n₀ s₀ q n s = Of sheet t (λ x. Turn sheet t x (λ (done : List SheetRule). NoneYet (t .counts) x words f a (length done)) q n) × (n ≤ q .past) × (q .past ≤ length sheet + 2) × (s .named ≡ false)
+Inv-loop sheet names counts words f a q₀ n₀ s₀ q n s =
+    Of sheet (tableOf names counts) (λ x. Turn sheet (tableOf names counts) x (λ (done : List SheetRule). NoneYet counts x words f a (length done)) q n) × (n ≤ q .past) × (q .past ≤ length sheet + 2) × (s .named ≡ false)
 
 abbrev μ-loop : tie.MeasureT-loop
-μ-loop sheet t words f a q₀ n₀ s₀ q n s = length sheet + 2 - q .past
+μ-loop sheet names counts words f a q₀ n₀ s₀ q n s = length sheet + 2 - q .past
 
 first-requires : tie.Need-first-requires Inv-loop μ-loop
-first-requires c κs = ((c .before .before .before .pre .room), (c .before .before .before .pre .sheetSaid))
+first-requires c κs = (c .before .before .before .before .pre .tidy, c .before .before .before .before .pre .sheetSaid)
 
 sides-if-requires : tie.Need-sides-if-requires Inv-loop μ-loop
-sides-if-requires c κs = (c .before .before .before .before .pre)
+sides-if-requires c κs = c .before .before .before .before .before .pre
 
 loop-holds : tie.Need-loop-holds Inv-loop μ-loop
 loop-holds c = ((λ x o m. turn-start (c .before .first .ensures) o m (none-start _ _ _ _ _)), omega arith, (c .before .first .ensures .inside), (c .sides-if .ensures .none) refl)
@@ -32,19 +34,19 @@ is-number-requires : tie.Need-is-number-requires Inv-loop μ-loop
 is-number-requires c κs = tt
 
 sides-if-requires-2 : tie.Need-sides-if-requires-2 Inv-loop μ-loop
-sides-if-requires-2 c κs = (c .before .before .before .before .before .before .before .before .pre)
+sides-if-requires-2 c κs = c .before .before .before .before .before .before .before .before .before .pre
 
 returns : tie.Need-returns Inv-loop μ-loop
 returns c = λ x o m. rw (c .if1 .taken) (some-turn ((c .before .before .before .before .loop .inv .0) x o m) (c .before .before .before .loop-test .taken) (c .before .before .is-number .ensures) o m (c .before .sides-if2 .ensures) (c .if1 .taken))
 
 add-n : tie.Need-add-n Inv-loop μ-loop
-add-n c = omega (arith, (c .before .before .before .before .loop .inv .1), (c .before .before .before .before .loop .inv .2), accepted-start _ _ (c .before .before .before .before .before .before .before .before .before .before .pre .sheetSaid .ends) .0)
+add-n c = omega (arith, (c .before .before .before .before .loop .inv .1), (c .before .before .before .before .loop .inv .2), accepted-start _ _ (c .before .before .before .before .before .before .before .before .before .before .before .pre .sheetSaid .ends) .0)
 
 add-next : tie.Need-add-next Inv-loop μ-loop
-add-next c = omega (arith, turn-paused ((c .before .before .before .before .before .loop .inv .0) (c .before .before .before .before .before .before .before .before .before .before .before .pre .sheetSaid .said) (c .before .before .before .before .before .before .before .before .before .before .before .pre .sheetSaid .ends) (c .before .before .before .before .before .before .before .before .before .before .before .pre .sheetSaid .names)) (c .before .before .before .before .loop-test .taken) .passing .near, (c .before .before .before .before .before .loop .inv .2), accepted-start _ _ (c .before .before .before .before .before .before .before .before .before .before .before .pre .sheetSaid .ends) .0)
+add-next c = omega (arith, turn-paused ((c .before .before .before .before .before .loop .inv .0) (c .before .before .before .before .before .before .before .before .before .before .before .before .pre .sheetSaid .said) (c .before .before .before .before .before .before .before .before .before .before .before .before .pre .sheetSaid .ends) (c .before .before .before .before .before .before .before .before .before .before .before .before .pre .sheetSaid .names)) (c .before .before .before .before .loop-test .taken) .passing .near, (c .before .before .before .before .before .loop .inv .2), accepted-start _ _ (c .before .before .before .before .before .before .before .before .before .before .before .before .pre .sheetSaid .ends) .0)
 
 next-requires : tie.Need-next-requires Inv-loop μ-loop
-next-requires c κs = ((c .before .before .before .before .before .before .before .before .before .before .before .pre .room), turn-paused ((c .before .before .before .before .before .loop .inv .0) (c .before .before .before .before .before .before .before .before .before .before .before .pre .sheetSaid .said) (c .before .before .before .before .before .before .before .before .before .before .before .pre .sheetSaid .ends) (c .before .before .before .before .before .before .before .before .before .before .before .pre .sheetSaid .names)) (c .before .before .before .before .loop-test .taken))
+next-requires c κs = (c .before .before .before .before .before .before .before .before .before .before .before .before .pre .tidy, turn-paused ((c .before .before .before .before .before .loop .inv .0) (c .before .before .before .before .before .before .before .before .before .before .before .before .pre .sheetSaid .said) (c .before .before .before .before .before .before .before .before .before .before .before .before .pre .sheetSaid .ends) (c .before .before .before .before .before .before .before .before .before .before .before .before .pre .sheetSaid .names)) (c .before .before .before .before .loop-test .taken))
 
 loop-less : tie.Need-loop-less Inv-loop μ-loop
 loop-less c = omega (arith, (c .next .ensures .later), (c .next .ensures .inside))

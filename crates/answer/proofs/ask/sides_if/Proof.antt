@@ -1,12 +1,11 @@
 -- `answer::ask::sides_if` meets its contract. Assumes nothing.
 use mathlib.Core.Path.{refl, sym, _∙_}
 use mathlib.Core.Bool.{true≢false}
-use borrow.Author.Needs.{needs}
 use Rattle.answer.proofs.ask.sides_if.Statement.{statement}
 use Rattle.answer.proofs.ask.sides_if.Tie as tie
 
 broken-requires : tie.Need-broken-requires
-broken-requires c κs = search needs
+broken-requires c κs = c .before .before .before .before .pre
 
 returns : tie.Need-returns
 returns c = record { breaking = λ e. (c .broken .ensures); none = λ e. absurd (true≢false (sym (c .before .if1 .taken) ∙ e)) }

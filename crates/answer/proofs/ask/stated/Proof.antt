@@ -1,5 +1,7 @@
 -- `answer::ask::stated` meets its contract. Assumes nothing.
 use mathlib.Core.Path.{sym, _∙_}
+use native.Mathlib.Omega.{arith}
+use Rattle.why.specs.laws.Stating.{statement-body}
 use borrow.Author.Needs.{needs}
 use Rattle.answer.proofs.ask.stated.Statement.{statement}
 use Rattle.answer.proofs.ask.stated.Tie as tie
@@ -28,11 +30,8 @@ no-cell-requires-3 c κs = search needs
 enum-known-f : tie.Need-enum-known-f
 enum-known-f c = search needs
 
-body-requires : tie.Need-body-requires
-body-requires c κs = search needs
-
 statement-requires : tie.Need-statement-requires
-statement-requires c κs = search needs
+statement-requires c κs = (c .before .before .before .before .before .before .before .before .pre .0, c .before .before .before .before .before .before .before .before .pre .1, omega arith)
 
 enum-told-4 : tie.Need-enum-told-4
 enum-told-4 c = search needs
@@ -62,7 +61,7 @@ returns-3 : tie.Need-returns-3
 returns-3 c = rw (sym (c .before .before .before .form .ensures) ∙ (c .before .enum-told3 .given .1)) (c .no-cell3 .ensures)
 
 returns-4 : tie.Need-returns-4
-returns-4 c = rw (sym (c .before .before .before .before .before .form .ensures) ∙ (c .before .before .before .f .given .1), (c .statement .ensures), (c .before .body .ensures))
+returns-4 c = let e = sym (c .before .before .before .before .form .ensures) ∙ (c .before .before .f .given .1) in rw (e, c .statement .ensures, statement-body (c .before .before .before .before .before .before .before .before .before .args .q .now) _ e)
 
 returns-5 : tie.Need-returns-5
 returns-5 c = rw (sym (c .before .before .before .form .ensures) ∙ (c .before .enum-told4 .given .1)) (c .no-cell4 .ensures)
@@ -85,7 +84,6 @@ stated-spec =
     enum-told-3
     no-cell-requires-3
     enum-known-f
-    body-requires
     statement-requires
     enum-told-4
     no-cell-requires-4

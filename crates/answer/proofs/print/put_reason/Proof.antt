@@ -6,10 +6,10 @@ use Rattle.answer.proofs.print.put_reason.Statement.{statement}
 use Rattle.answer.proofs.print.put_reason.Tie as tie
 
 put-lines-requires : tie.Need-put-lines-requires
-put-lines-requires c κs = search needs
+put-lines-requires c κs = c .before .before .before .before .pre .1
 
 put-absent-requires : tie.Need-put-absent-requires
-put-absent-requires c κs = search needs
+put-absent-requires c κs = (c .before .before .before .before .before .before .before .before .pre .0, c .before .before .before .put-lines .ensures .short)
 
 total-requires : tie.Need-total-requires
 total-requires c κs = search needs

@@ -7,10 +7,10 @@ use Rattle.answer.proofs.reply.explain.Statement.{statement}
 use Rattle.answer.proofs.reply.explain.Tie as tie
 
 reasoned-requires : tie.Need-reasoned-requires
-reasoned-requires c κs = ((c .before .before .before .pre), refl, λ j. clear-zeros 103 j)
+reasoned-requires c κs = (c .before .before .before .before .pre, refl, λ j. clear-zeros 103 j)
 
 fit-requires : tie.Need-fit-requires
-fit-requires c κs = asked-accepted (c .before .before .before .before .before .before .pre)
+fit-requires c κs = (c .before .before .before .before .before .before .before .pre .tidy, asked-accepted (c .before .before .before .before .before .before .before .pre))
 
 same-length : tie.Need-same-length
 same-length c = search needs

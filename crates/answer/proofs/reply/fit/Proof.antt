@@ -9,13 +9,13 @@ slice-aggregate-put-reason : tie.Need-slice-aggregate-put-reason
 slice-aggregate-put-reason c = search needs
 
 put-reason-requires : tie.Need-put-reason-requires
-put-reason-requires c κs = (c .before .before .before .pre)
+put-reason-requires c κs = c .before .before .before .before .pre
 
 returns : tie.Need-returns
 returns c = record { fits = λ x o. fitted-not ((c .before .before .put-reason .ensures .wrote) x o) (c .before .before .put-reason .ensures .short) (c .if1 .taken) }
 
 put-reason-requires-2 : tie.Need-put-reason-requires-2
-put-reason-requires-2 c κs = (c .before .before .before .before .before .before .before .pre)
+put-reason-requires-2 c κs = c .before .before .before .before .before .before .before .before .pre
 
 same-length : tie.Need-same-length
 same-length c = search needs

@@ -14,7 +14,7 @@ trail-at-requires : tie.Need-trail-at-requires
 trail-at-requires c κs = search needs
 
 returns : tie.Need-returns
-returns c = rw (c .trail-at .ensures) (record { more = refl; names-kept = refl; past-kept = refl; line-kept = refl; number-kept = refl })
+returns c = rw (c .trail-at .ensures) (record { more = refl; declared-kept = refl; past-kept = refl; line-kept = refl; number-kept = refl })
 
 pub ended-spec : {M : Type 1} → statement M
 ended-spec = tie.close (tie.spec empty-requires layout-requires trail-at-requires returns)

@@ -1,12 +1,12 @@
 -- `listing::trails::open` meets its contract. Assumes nothing.
-use Rattle.field.specs.own.Table.{Places}
-use Rattle.listing.specs.laws.Opens.{opens-accepted, opens-accepts, opens-refused, opens-store}
+use Rattle.listing.specs.laws.Opens.{opens-accepted, opens-paused, opens-refused, opens-store}
 use borrow.Author.Needs.{needs}
+use native.Mathlib.Omega.{arith}
 use Rattle.listing.proofs.trails.open.Statement.{statement}
 use Rattle.listing.proofs.trails.open.Tie as tie
 
 whole-requires : tie.Need-whole-requires
-whole-requires c κs = search needs
+whole-requires c κs = c .before .before .before .before .before .pre
 
 enum-known-answer : tie.Need-enum-known-answer
 enum-known-answer c = search needs
@@ -14,11 +14,8 @@ enum-known-answer c = search needs
 fewer-requires : tie.Need-fewer-requires
 fewer-requires c κs = search needs
 
-first-requires : tie.Need-first-requires
-first-requires c κs =
-    let g = (c .before .before .before .before .before .before .before .before .whole .ok) in
-    let p : Places ((c .before .before .before .before .before .before .before .before .whole .result) .table) = record { concepts = search needs; roles = search needs; items = search needs } in
-    (opens-store (c .before .before .before .before .before .before .before .before .whole .ensures) (c .before .before .before .answer .given .1) p, opens-accepts (c .before .before .before .before .before .before .before .before .whole .ensures) (c .before .before .before .answer .given .1))
+seek-requires : tie.Need-seek-requires
+seek-requires c κs = (c .before .before .before .before .before .before .before .before .before .before .before .before .whole .ensures .tidy, opens-store (c .before .before .before .before .before .before .before .before .before .before .before .before .whole .ensures) (c .before .before .before .before .answer .given .1), opens-paused (c .before .before .before .before .before .before .before .before .before .before .before .before .whole .ensures) (c .before .before .before .before .answer .given .1), omega arith)
 
 enum-told : tie.Need-enum-told
 enum-told c = search needs
@@ -27,16 +24,22 @@ ended-requires : tie.Need-ended-requires
 ended-requires c κs = search needs
 
 same-length : tie.Need-same-length
-same-length c = search needs
-
-returns : tie.Need-returns
-returns c = opens-accepted (c .before .before .before .before .before .before .before .before .before .whole .ensures) (c .before .before .before .before .answer .given .1) _ (c .before .before .fewer .ensures) (c .first .ensures)
+same-length c = c .before .before .before .before .before .before .before .before .before .before .before .before .before .whole .kept .1 .0
 
 same-length-2 : tie.Need-same-length-2
-same-length-2 c = search needs
+same-length-2 c = c .before .before .before .before .before .before .before .before .before .before .before .before .before .whole .kept .1 .1 .0
+
+returns : tie.Need-returns
+returns c = opens-accepted (c .before .before .before .before .before .before .before .before .before .before .before .before .before .whole .ensures) (c .before .before .before .before .before .answer .given .1) _ (c .before .before .before .fewer .ensures) (c .seek .ensures)
+
+same-length-3 : tie.Need-same-length-3
+same-length-3 c = c .before .before .before .before .before .before .before .before .before .whole .kept .1 .0
+
+same-length-4 : tie.Need-same-length-4
+same-length-4 c = c .before .before .before .before .before .before .before .before .before .whole .kept .1 .1 .0
 
 returns-2 : tie.Need-returns-2
-returns-2 c = opens-refused (c .before .before .before .before .before .before .whole .ensures) _ (c .before .enum-told .given .1)
+returns-2 c = opens-refused (c .before .before .before .before .before .before .before .before .before .whole .ensures) _ (c .before .enum-told .given .1)
 
 pub open-spec : {M : Type 1} → statement M
 open-spec =
@@ -45,10 +48,12 @@ open-spec =
     whole-requires
     enum-known-answer
     fewer-requires
-    first-requires
+    seek-requires
     enum-told
     ended-requires
     same-length
-    returns
     same-length-2
+    returns
+    same-length-3
+    same-length-4
     returns-2)

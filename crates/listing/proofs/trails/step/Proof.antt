@@ -9,7 +9,7 @@ search-of-requires : tie.Need-search-of-requires
 search-of-requires c κs = search needs
 
 step-requires : tie.Need-step-requires
-step-requires c κs = rw (c .search-of .ensures) ((c .before .before .before .before .before .before .pre .ready) (omega arith))
+step-requires c κs = rw (c .search-of .ensures) ((c .before .before .before .before .before .before .before .pre .ready) (omega arith))
 
 sub-trail-at : tie.Need-sub-trail-at
 sub-trail-at c = search needs
@@ -18,7 +18,7 @@ trail-at-requires : tie.Need-trail-at-requires
 trail-at-requires c κs = search needs
 
 returns : tie.Need-returns
-returns c = rw (c .trail-at .ensures) (steps-along (c .before .before .before .before .before .before .before .before .before .pre) (c .before .before .before .before .if1 .taken) (rw (c .before .before .before .search-of .ensures) at (c .before .before .step .ensures)))
+returns c = rw (c .trail-at .ensures) (steps-along (c .before .before .before .before .before .before .before .before .before .before .pre) (c .before .before .before .before .if1 .taken) (rw (c .before .before .before .search-of .ensures) at (c .before .before .step .ensures)))
 
 seek-requires : tie.Need-seek-requires
 seek-requires c κs = search needs

@@ -13,8 +13,14 @@ same-length c = search needs
 returns : tie.Need-returns
 returns c = page-size (c .before .before .before .before .if1 .taken) (c .before .before .refused .ensures .0)
 
+slice-aggregate-fill : tie.Need-slice-aggregate-fill
+slice-aggregate-fill c = search needs
+
 fill-requires : tie.Need-fill-requires
 fill-requires c κs = search needs
+
+slice-aggregate-print-ended : tie.Need-slice-aggregate-print-ended
+slice-aggregate-print-ended c = search needs
 
 print-ended-requires : tie.Need-print-ended-requires
 print-ended-requires c κs = search needs
@@ -26,7 +32,7 @@ same-length-3 : tie.Need-same-length-3
 same-length-3 c = search needs
 
 returns-2 : tie.Need-returns-2
-returns-2 c = page-read (c .before .before .before .before .before .before .before .before .before .if1 .left) (λ i. c .before .before .before .before .before .slice-known4 .given i .fits) (c .before .before .before .before .before .before .before .fill .ensures) (c .before .before .print-ended .ensures)
+returns-2 c = page-read (c .before .before .before .before .before .before .before .before .before .before .before .before .if1 .left) (λ i. c .before .before .before .before .before .before .before .slice-known4 .given i .fits) (c .before .before .before .before .before .before .before .before .before .fill .ensures) (c .before .before .print-ended .ensures)
 
 pub page-in-spec : {M : Type 1} → statement M
 page-in-spec =
@@ -35,7 +41,9 @@ page-in-spec =
     refused-requires
     same-length
     returns
+    slice-aggregate-fill
     fill-requires
+    slice-aggregate-print-ended
     print-ended-requires
     same-length-2
     same-length-3

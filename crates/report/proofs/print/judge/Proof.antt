@@ -13,7 +13,7 @@ layout-requires : tie.Need-layout-requires
 layout-requires c κs = search needs
 
 start-requires : tie.Need-start-requires
-start-requires c κs = (laid-of (c .before .layout .ensures) (c .before .before .before .before .before .pre .store .long) (omega arith), rw (c .before .layout .ensures) (c .before .before .before .before .before .pre .store))
+start-requires c κs = (laid-of (c .layout .ensures) (c .before .before .before .before .before .pre .1 .store .long) (omega arith), rw (c .layout .ensures) (c .before .before .before .before .before .pre .1 .store))
 
 findings-requires : tie.Need-findings-requires
 findings-requires c κs = search needs
@@ -27,14 +27,14 @@ sub-t19 c = search needs
 add-t20 : tie.Need-add-t20
 add-t20 c =
     let z = c .before .before .before .before .before .before .before .before .start .ensures in
-    let pre = c .before .before .before .before .before .before .before .before .before .before .before .before .before .before .pre in
+    let pre = c .before .before .before .before .before .before .before .before .before .before .before .before .before .before .pre .1 in
     omega (arith, c .before .before .counted .ensures ∙ ap countedIn (z .answer), few-findings (pre .store .fits .items) (z .findings), pre .total)
 
 same-length : tie.Need-same-length
 same-length c = search needs
 
 returns : tie.Need-returns
-returns c = rw (c .before .before .counted .ensures) (tallied (c .before .before .before .before .before .before .before .before .before .before .layout .ensures) (c .before .before .before .before .before .before .before .before .start .ensures) (c .before .before .before .before .before .findings .ensures .0) (c .before .before .before .before .before .findings .ensures .1))
+returns c = rw (c .before .before .counted .ensures) (tallied (c .before .before .before .before .before .before .before .before .before .layout .ensures) (c .before .before .before .before .before .before .before .before .start .ensures) (c .before .before .before .before .before .findings .ensures .0) (c .before .before .before .before .before .findings .ensures .1))
 
 pub judge-spec : {M : Type 1} → statement M
 judge-spec =

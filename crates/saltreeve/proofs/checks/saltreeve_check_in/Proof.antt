@@ -1,24 +1,19 @@
 -- `saltreeve::checks::saltreeve_check_in` meets its contract. Assumes nothing.
-use native.Mathlib.Omega.{arith}
 use mir.Syntax.{w64}
 use mir.ValLaws.{toZ-ofZ}
+use lib.IntN.{pos}
 use Rattle.report.specs.laws.Short.{pages-in-short}
-use Rattle.saltreeve.specs.laws.Check.{check-in-by}
+use Rattle.saltreeve.specs.laws.Check.{check-in-in-place}
+use native.Mathlib.Omega.{arith}
 use borrow.Author.Needs.{needs}
 use Rattle.saltreeve.proofs.checks.saltreeve_check_in.Statement.{statement}
 use Rattle.saltreeve.proofs.checks.saltreeve_check_in.Tie as tie
 
-slice-aggregate-page-in : tie.Need-slice-aggregate-page-in
-slice-aggregate-page-in c = search needs
-
 page-in-requires : tie.Need-page-in-requires
 page-in-requires c κs = search needs
 
-slice-aggregate-hand : tie.Need-slice-aggregate-hand
-slice-aggregate-hand c = search needs
-
-hand-requires : tie.Need-hand-requires
-hand-requires c κs = let z = pages-in-short (c .before .before .before .before .before .page-in .ensures) in (omega arith, omega arith)
+cast-result : tie.Need-cast-result
+cast-result c = omega (arith, pages-in-short (c .before .before .before .before .page-in .ensures))
 
 same-length : tie.Need-same-length
 same-length c = search needs
@@ -27,16 +22,32 @@ same-length-2 : tie.Need-same-length-2
 same-length-2 c = search needs
 
 returns : tie.Need-returns
-returns c = rw (toZ-ofZ w64 (c .before .before .hand .result) (record { sfits = omega (arith, c .before .before .hand .ok) })) (check-in-by (c .before .before .before .before .before .before .before .before .page-in .ensures) (omega (arith, pages-in-short (c .before .before .before .before .before .before .before .before .page-in .ensures))) (c .before .before .hand .ensures))
+returns c =
+    let z = pages-in-short (c .before .before .before .before .page-in .ensures) in
+    rw (toZ-ofZ w64 (pos (c .before .before .before .before .page-in .result)) (record { sfits = omega (arith, z) })) (check-in-in-place (c .before .before .before .before .page-in .ensures) (omega (arith, z, c .before .before .before .before .before .before .before .if1 .taken)))
+
+check-in-aside-requires : tie.Need-check-in-aside-requires
+check-in-aside-requires c κs = search needs
+
+same-length-3 : tie.Need-same-length-3
+same-length-3 c = search needs
+
+same-length-4 : tie.Need-same-length-4
+same-length-4 c = search needs
+
+returns-2 : tie.Need-returns-2
+returns-2 c = search needs
 
 pub saltreeve-check-in-spec : {M : Type 1} → statement M
 saltreeve-check-in-spec =
     tie.close
     (tie.spec
-    slice-aggregate-page-in
     page-in-requires
-    slice-aggregate-hand
-    hand-requires
+    cast-result
     same-length
     same-length-2
-    returns)
+    returns
+    check-in-aside-requires
+    same-length-3
+    same-length-4
+    returns-2)

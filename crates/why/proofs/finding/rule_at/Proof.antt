@@ -4,6 +4,7 @@ use mathlib.Core.List.{List, [], _∷_}
 use Prim.Native.Nat.{_+_, _-_, _≤_}
 use native.Mathlib.Omega.{arith}
 use lib.ListN.{length, length-append}
+use Rattle.field.specs.own.Table.{tableOf}
 use Rattle.sheet.specs.Said.{SheetRule}
 use Rattle.sheet.specs.laws.Count.{Turn, turn-end, turn-next, turn-paused, turn-rules, turn-start}
 use Rattle.sheet.specs.laws.Pass.{accepted-start}
@@ -13,13 +14,13 @@ use Rattle.why.proofs.finding.rule_at.Statement.{statement}
 use Rattle.why.proofs.finding.rule_at.Tie as tie
 
 abbrev Inv-loop : tie.InvT-loop
-Inv-loop sheet t k q₀ n₀ q n = Of sheet t (λ x. Turn sheet t x (λ (done : List SheetRule). length done ≤ k) q n) × (n ≤ q .past) × (q .past ≤ length sheet + 2) × (n ≤ k)
+Inv-loop sheet names counts k q₀ n₀ q n = Of sheet (tableOf names counts) (λ x. Turn sheet (tableOf names counts) x (λ (done : List SheetRule). length done ≤ k) q n) × (n ≤ q .past) × (q .past ≤ length sheet + 2) × (n ≤ k)
 
 abbrev μ-loop : tie.MeasureT-loop
-μ-loop sheet t k q₀ n₀ q n = length sheet + 2 - q .past
+μ-loop sheet names counts k q₀ n₀ q n = length sheet + 2 - q .past
 
 first-requires : tie.Need-first-requires Inv-loop μ-loop
-first-requires c κs = (c .before .pre .0, c .before .pre .1)
+first-requires c κs = (c .before .before .pre .0, c .before .before .pre .1)
 
 loop-holds : tie.Need-loop-holds Inv-loop μ-loop
 loop-holds c = ((λ x o m. turn-start (c .first .ensures) o m (omega arith)), omega arith, c .first .ensures .inside, omega arith)
@@ -32,13 +33,13 @@ returns c =
     rw (c .before .loop-test .taken) (record { before = w .done; line = c .before .before .loop .q .line; after = z .0; is = z .1; place = sym (c .if1 .taken) ∙ w .number })
 
 add-n : tie.Need-add-n Inv-loop μ-loop
-add-n c = omega (arith, (c .before .before .loop .inv .1), (c .before .before .loop .inv .2), accepted-start _ _ (c .before .before .before .before .before .pre .1 .ends) .0)
+add-n c = omega (arith, (c .before .before .loop .inv .1), (c .before .before .loop .inv .2), accepted-start _ _ (c .before .before .before .before .before .before .pre .1 .ends) .0)
 
 add-next : tie.Need-add-next Inv-loop μ-loop
-add-next c = omega (arith, turn-paused ((c .before .before .before .loop .inv .0) _ (c .before .before .before .before .before .before .pre .1 .ends) (c .before .before .before .before .before .before .pre .1 .names)) (c .before .before .loop-test .taken) .passing .near, (c .before .before .before .loop .inv .2), accepted-start _ _ (c .before .before .before .before .before .before .pre .1 .ends) .0)
+add-next c = omega (arith, turn-paused ((c .before .before .before .loop .inv .0) _ (c .before .before .before .before .before .before .before .pre .1 .ends) (c .before .before .before .before .before .before .before .pre .1 .names)) (c .before .before .loop-test .taken) .passing .near, (c .before .before .before .loop .inv .2), accepted-start _ _ (c .before .before .before .before .before .before .before .pre .1 .ends) .0)
 
 next-requires : tie.Need-next-requires Inv-loop μ-loop
-next-requires c κs = ((c .before .before .before .before .before .before .pre .0), turn-paused ((c .before .before .before .loop .inv .0) _ (c .before .before .before .before .before .before .pre .1 .ends) (c .before .before .before .before .before .before .pre .1 .names)) (c .before .before .loop-test .taken))
+next-requires c κs = ((c .before .before .before .before .before .before .before .pre .0), turn-paused ((c .before .before .before .loop .inv .0) _ (c .before .before .before .before .before .before .before .pre .1 .ends) (c .before .before .before .before .before .before .before .pre .1 .names)) (c .before .before .loop-test .taken))
 
 loop-less : tie.Need-loop-less Inv-loop μ-loop
 loop-less c = omega (arith, (c .next .ensures .later), (c .next .ensures .inside))
