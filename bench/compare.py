@@ -30,8 +30,10 @@ PROGRAM_RUNS = 25
 CALL_LIMIT = 30          # seconds for one call, also where instructions are counted
 TOTAL_SECONDS = 500      # for the whole run; what is not begun by then is left out
 ENGINE_SECONDS = 300     # for all engines together
-AIM_INSTRUCTIONS = 1.5   # times the plain checker's
-AIM_ENGINES = 50         # times faster than each engine
+AIM_INSTRUCTIONS = 4     # times the plain checker's, on every sheet
+GOAL_INSTRUCTIONS = 2    # the same in the end
+AIM_NOTHING = 20000      # instructions of a sheet with nothing in it
+AIM_ENGINES = 30         # times faster than each engine
 STAND_IN = "stand-in"
 
 
@@ -230,15 +232,30 @@ def print_calls(checkers, paths, counts):
     return times
 
 
-# How the instructions of both checkers stand to the aim.
+# "within" or "NOT within".
+def within(met):
+    return "within" if met else "NOT within"
+
+
+# How the instructions of both checkers stand to the aim, and to the goal.
 def print_worst(pairs):
+    said = f"\nThe aim is at most {AIM_INSTRUCTIONS} times the plain checker's instructions, the goal {GOAL_INSTRUCTIONS} times: "
     if any(None in pair for pair in pairs):
-        print(f"\nThe aim is at most {AIM_INSTRUCTIONS} times the plain checker's instructions: a count took over "
-              f"{CALL_LIMIT} s, NOT within the aim.")
+        print(f"{said}a count took over {CALL_LIMIT} s, NOT within the aim.")
         return
     worst = max(ours / plain for ours, plain in pairs)
-    print(f"\nThe aim is at most {AIM_INSTRUCTIONS} times the plain checker's instructions: the most is {worst:.2f}, "
-          f"{'within' if worst <= AIM_INSTRUCTIONS else 'NOT within'} the aim.")
+    print(f"{said}the most is {worst:.2f}, {within(worst <= AIM_INSTRUCTIONS)} the aim, {within(worst <= GOAL_INSTRUCTIONS)} the goal.")
+
+
+# The instructions of a call with an accepted sheet that has nothing in it.
+def print_nothing(checker):
+    if shutil.which("valgrind") is None:
+        return
+    path = BUILD / "nothing.sheet"
+    path.write_bytes(b"sheet\t1\n")
+    count = checker.instructions(path)
+    print(f"A sheet with nothing in it takes {count_shown(count)} instructions; the aim is under {AIM_NOTHING:,}: "
+          f"{within(count is not None and count < AIM_NOTHING)} the aim.")
 
 
 # The programs, one process a sheet: the checkers' and the engines'.
@@ -334,7 +351,7 @@ def print_engines(engines, runs, names, times, ours):
     known = [ratio for (name, _), run in runs.items() if (ratio := ahead(run, times[name, ours])) is not None]
     if known:
         print(f"The aim is to be ahead of each by {AIM_ENGINES} times or more: by this table the least is {min(known):,.1f} times, "
-              f"{'within' if min(known) >= AIM_ENGINES else 'NOT within'} the aim.")
+              f"{within(min(known) >= AIM_ENGINES)} the aim.")
 
 
 # Which texts are missing, so that there is nothing to agree with.
@@ -398,6 +415,7 @@ def main():
         print_sheets(drawn, texts)
         counts = instructions_of(checkers, paths)
         times = print_calls(checkers, paths, counts)
+        print_nothing(checkers[0])
         engines = [] if chosen.no_engines else engines_there()
         runs = engine_runs(engines, drawn, chosen.limit)
         engines_agree(runs, texts)
