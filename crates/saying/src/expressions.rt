@@ -67,6 +67,90 @@ fn head_fields(o: Operator) -> usize
     }
 }
 
+// The nodes of `or`, written after the first i; gives how many there are then.
+fn put_or(nodes: &mut [usize], i: usize) -> usize
+    requires { ⌜ (length (now nodes) ≡ packLimit) × (i + 3 ≤ nodeLimit) ⌝ }
+    ensures { λ r. ⌜ PutAll (now (nodes .entry)) i (Node.Not (i + 1) ∷ Node.And (i + 2) 0 ∷ Node.Not (i + 3) ∷ []) (now (nodes .exit)) r ⌝ }
+{
+    let and = Node::And(i + 2, 0);
+    put_three(nodes, i, Node::Not(i + 1), and, Node::Not(i + 3))
+}
+
+// The nodes of `some`, which is the field with the number k; its role is the next field.
+fn put_some(
+    sheet: &[u8],
+    names: &[u32],
+    counts: Counts,
+    line: &[u8],
+    ends: &[u16],
+    nodes: &mut [usize],
+    i: usize,
+    k: usize,
+) -> usize
+    requires { ⌜ Tidy (now sheet) (tableOf (now names) counts) × Looked (now line) (now ends) × (length (now nodes) ≡ packLimit) × (i < nodeLimit) × (k < length (now ends)) ⌝ }
+    ensures { λ r. ⌜ PutAll (now (nodes .entry)) i (headNodes (namesOf (now (sheet .entry)) (tableOf (now (names .entry)) counts)) Operator.Some i (drop k (fields (now (line .entry))))) (now (nodes .exit)) r ⌝ }
+{
+    let u = crate::numbers::role_use(sheet, names, counts, line, ends, k + 1);
+    put(nodes, i, Node::AtLeast(1, u, i + 1))
+}
+
+// The nodes of `all`, which is the field with the number k; its role is the next field.
+fn put_every(
+    sheet: &[u8],
+    names: &[u32],
+    counts: Counts,
+    line: &[u8],
+    ends: &[u16],
+    nodes: &mut [usize],
+    i: usize,
+    k: usize,
+) -> usize
+    requires { ⌜ Tidy (now sheet) (tableOf (now names) counts) × Looked (now line) (now ends) × (length (now nodes) ≡ packLimit) × (i + 3 ≤ nodeLimit) × (k < length (now ends)) ⌝ }
+    ensures { λ r. ⌜ PutAll (now (nodes .entry)) i (headNodes (namesOf (now (sheet .entry)) (tableOf (now (names .entry)) counts)) Operator.All i (drop k (fields (now (line .entry))))) (now (nodes .exit)) r ⌝ }
+{
+    let u = crate::numbers::role_use(sheet, names, counts, line, ends, k + 1);
+    let some = Node::AtLeast(1, u, i + 2);
+    put_three(nodes, i, Node::Not(i + 1), some, Node::Not(i + 3))
+}
+
+// The nodes of `atleast`, which is the field with the number k; its count and its role are the next two.
+fn put_at_least(
+    sheet: &[u8],
+    names: &[u32],
+    counts: Counts,
+    line: &[u8],
+    ends: &[u16],
+    nodes: &mut [usize],
+    i: usize,
+    k: usize,
+) -> usize
+    requires { ⌜ Tidy (now sheet) (tableOf (now names) counts) × Looked (now line) (now ends) × (length (now nodes) ≡ packLimit) × (i < nodeLimit) × (k < length (now ends)) ⌝ }
+    ensures { λ r. ⌜ PutAll (now (nodes .entry)) i (headNodes (namesOf (now (sheet .entry)) (tableOf (now (names .entry)) counts)) Operator.AtLeast i (drop k (fields (now (line .entry))))) (now (nodes .exit)) r ⌝ }
+{
+    let u = crate::numbers::role_use(sheet, names, counts, line, ends, k + 2);
+    let m = field::names::count(crate::numbers::nth(line, ends, k + 1));
+    put(nodes, i, Node::AtLeast(m, u, i + 1))
+}
+
+// The nodes of `atmost`, which is the field with the number k; its count and its role are the next two.
+fn put_at_most(
+    sheet: &[u8],
+    names: &[u32],
+    counts: Counts,
+    line: &[u8],
+    ends: &[u16],
+    nodes: &mut [usize],
+    i: usize,
+    k: usize,
+) -> usize
+    requires { ⌜ Tidy (now sheet) (tableOf (now names) counts) × Looked (now line) (now ends) × (length (now nodes) ≡ packLimit) × (i + 2 ≤ nodeLimit) × (k < length (now ends)) ⌝ }
+    ensures { λ r. ⌜ PutAll (now (nodes .entry)) i (headNodes (namesOf (now (sheet .entry)) (tableOf (now (names .entry)) counts)) Operator.AtMost i (drop k (fields (now (line .entry))))) (now (nodes .exit)) r ⌝ }
+{
+    let u = crate::numbers::role_use(sheet, names, counts, line, ends, k + 2);
+    let m = field::names::count(crate::numbers::nth(line, ends, k + 1));
+    put_two(nodes, i, Node::Not(i + 1), Node::AtLeast(m + 1, u, i + 2))
+}
+
 // The nodes that a word stands for, written after the first i; gives how many there are then. The word is the field with the number k.
 fn put_head(
     sheet: &[u8],
@@ -84,38 +168,12 @@ fn put_head(
 {
     match o {
         Operator::And => put(nodes, i, Node::And(i + 1, 0)),
-        Operator::Or => put_three(
-            nodes,
-            i,
-            Node::Not(i + 1),
-            Node::And(i + 2, 0),
-            Node::Not(i + 3),
-        ),
+        Operator::Or => put_or(nodes, i),
         Operator::Not => put(nodes, i, Node::Not(i + 1)),
-        Operator::Some => {
-            let u = crate::numbers::role_use(sheet, names, counts, line, ends, k + 1);
-            put(nodes, i, Node::AtLeast(1, u, i + 1))
-        }
-        Operator::All => {
-            let u = crate::numbers::role_use(sheet, names, counts, line, ends, k + 1);
-            put_three(
-                nodes,
-                i,
-                Node::Not(i + 1),
-                Node::AtLeast(1, u, i + 2),
-                Node::Not(i + 3),
-            )
-        }
-        Operator::AtLeast => {
-            let u = crate::numbers::role_use(sheet, names, counts, line, ends, k + 2);
-            let m = field::names::count(crate::numbers::nth(line, ends, k + 1));
-            put(nodes, i, Node::AtLeast(m, u, i + 1))
-        }
-        Operator::AtMost => {
-            let u = crate::numbers::role_use(sheet, names, counts, line, ends, k + 2);
-            let m = field::names::count(crate::numbers::nth(line, ends, k + 1));
-            put_two(nodes, i, Node::Not(i + 1), Node::AtLeast(m + 1, u, i + 2))
-        }
+        Operator::Some => put_some(sheet, names, counts, line, ends, nodes, i, k),
+        Operator::All => put_every(sheet, names, counts, line, ends, nodes, i, k),
+        Operator::AtLeast => put_at_least(sheet, names, counts, line, ends, nodes, i, k),
+        Operator::AtMost => put_at_most(sheet, names, counts, line, ends, nodes, i, k),
         Operator::SelfOf => {
             let u = crate::numbers::role_use(sheet, names, counts, line, ends, k + 1);
             put(nodes, i, Node::SelfOf(u))

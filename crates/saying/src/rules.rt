@@ -55,6 +55,89 @@ fn chain(
     Head::Chain(k, a, b, c, d, e)
 }
 
+// The head of the rule that a role is below another.
+fn role_sub(
+    sheet: &[u8],
+    names: &[u32],
+    counts: Counts,
+    line: &[u8],
+    ends: &[u16],
+    from: usize,
+) -> Head
+    requires { ⌜ Tidy (now sheet) (tableOf (now names) counts) × Looked (now line) (now ends) × (from ≤ 2) ⌝ }
+    ensures { λ r. ⌜ r ≡ ruleOf (namesOf (now (sheet .entry)) (tableOf (now (names .entry)) counts)) RuleWord.RoleSub (drop from (fields (now (line .entry)))) .head ⌝ }
+{
+    let a = crate::numbers::role_use(sheet, names, counts, line, ends, from);
+    let b = crate::numbers::role_use(sheet, names, counts, line, ends, from + 1);
+    Head::RoleSub(a, b)
+}
+
+// The head of the rule that two roles never link the same two items.
+fn dis(sheet: &[u8], names: &[u32], counts: Counts, line: &[u8], ends: &[u16], from: usize) -> Head
+    requires { ⌜ Tidy (now sheet) (tableOf (now names) counts) × Looked (now line) (now ends) × (from ≤ 2) ⌝ }
+    ensures { λ r. ⌜ r ≡ ruleOf (namesOf (now (sheet .entry)) (tableOf (now (names .entry)) counts)) RuleWord.Dis (drop from (fields (now (line .entry)))) .head ⌝ }
+{
+    let a = crate::numbers::role_use(sheet, names, counts, line, ends, from);
+    let b = crate::numbers::role_use(sheet, names, counts, line, ends, from + 1);
+    Head::Dis(a, b)
+}
+
+// The head of the rule that a role links two items.
+fn rel(sheet: &[u8], names: &[u32], counts: Counts, line: &[u8], ends: &[u16], from: usize) -> Head
+    requires { ⌜ Tidy (now sheet) (tableOf (now names) counts) × Looked (now line) (now ends) × (from ≤ 2) ⌝ }
+    ensures { λ r. ⌜ r ≡ ruleOf (namesOf (now (sheet .entry)) (tableOf (now (names .entry)) counts)) RuleWord.Rel (drop from (fields (now (line .entry)))) .head ⌝ }
+{
+    let u = crate::numbers::role_use(sheet, names, counts, line, ends, from);
+    let a = crate::numbers::item(sheet, names, counts, line, ends, from + 1);
+    let b = crate::numbers::item(sheet, names, counts, line, ends, from + 2);
+    Head::Rel(u, a, b)
+}
+
+// The head of the rule that a role does not link two items.
+fn no_rel(
+    sheet: &[u8],
+    names: &[u32],
+    counts: Counts,
+    line: &[u8],
+    ends: &[u16],
+    from: usize,
+) -> Head
+    requires { ⌜ Tidy (now sheet) (tableOf (now names) counts) × Looked (now line) (now ends) × (from ≤ 2) ⌝ }
+    ensures { λ r. ⌜ r ≡ ruleOf (namesOf (now (sheet .entry)) (tableOf (now (names .entry)) counts)) RuleWord.NoRel (drop from (fields (now (line .entry)))) .head ⌝ }
+{
+    let u = crate::numbers::role_use(sheet, names, counts, line, ends, from);
+    let a = crate::numbers::item(sheet, names, counts, line, ends, from + 1);
+    let b = crate::numbers::item(sheet, names, counts, line, ends, from + 2);
+    Head::NoRel(u, a, b)
+}
+
+// The head of the rule that two items are the same.
+fn same(sheet: &[u8], names: &[u32], counts: Counts, line: &[u8], ends: &[u16], from: usize) -> Head
+    requires { ⌜ Tidy (now sheet) (tableOf (now names) counts) × Looked (now line) (now ends) × (from ≤ 2) ⌝ }
+    ensures { λ r. ⌜ r ≡ ruleOf (namesOf (now (sheet .entry)) (tableOf (now (names .entry)) counts)) RuleWord.Same (drop from (fields (now (line .entry)))) .head ⌝ }
+{
+    let a = crate::numbers::item(sheet, names, counts, line, ends, from);
+    let b = crate::numbers::item(sheet, names, counts, line, ends, from + 1);
+    Head::Same(a, b)
+}
+
+// The head of the rule that two items differ.
+fn differ(
+    sheet: &[u8],
+    names: &[u32],
+    counts: Counts,
+    line: &[u8],
+    ends: &[u16],
+    from: usize,
+) -> Head
+    requires { ⌜ Tidy (now sheet) (tableOf (now names) counts) × Looked (now line) (now ends) × (from ≤ 2) ⌝ }
+    ensures { λ r. ⌜ r ≡ ruleOf (namesOf (now (sheet .entry)) (tableOf (now (names .entry)) counts)) RuleWord.Differ (drop from (fields (now (line .entry)))) .head ⌝ }
+{
+    let a = crate::numbers::item(sheet, names, counts, line, ends, from);
+    let b = crate::numbers::item(sheet, names, counts, line, ends, from + 1);
+    Head::Differ(a, b)
+}
+
 // The rule that one expression is below another.
 fn sub(sheet: &[u8], names: &[u32], counts: Counts, line: &[u8], ends: &[u16], from: usize) -> Rule
     requires { ⌜ Tidy (now sheet) (tableOf (now names) counts) × Looked (now line) (now ends) × (from ≤ 2) × RuleReady RuleWord.Sub (drop from (fields (now line))) ⌝ }
@@ -139,55 +222,21 @@ pub fn rule_of(
 {
     match w {
         RuleWord::Sub => sub(sheet, names, counts, line, ends, from),
-        RuleWord::RoleSub => {
-            let a = crate::numbers::role_use(sheet, names, counts, line, ends, from);
-            let b = crate::numbers::role_use(sheet, names, counts, line, ends, from + 1);
-            bare(Head::RoleSub(a, b))
-        }
+        RuleWord::RoleSub => bare(role_sub(sheet, names, counts, line, ends, from)),
         RuleWord::Chain => bare(chain(sheet, names, counts, line, ends, from)),
-        RuleWord::Ref => bare(Head::Ref(crate::numbers::role_use(
-            sheet,
-            names,
-            counts,
-            line,
-            ends,
-            from,
-        ))),
-        RuleWord::Irr => bare(Head::Irr(crate::numbers::role_use(
-            sheet,
-            names,
-            counts,
-            line,
-            ends,
-            from,
-        ))),
-        RuleWord::Dis => {
-            let a = crate::numbers::role_use(sheet, names, counts, line, ends, from);
-            let b = crate::numbers::role_use(sheet, names, counts, line, ends, from + 1);
-            bare(Head::Dis(a, b))
+        RuleWord::Ref => {
+            let u = crate::numbers::role_use(sheet, names, counts, line, ends, from);
+            bare(Head::Ref(u))
         }
+        RuleWord::Irr => {
+            let u = crate::numbers::role_use(sheet, names, counts, line, ends, from);
+            bare(Head::Irr(u))
+        }
+        RuleWord::Dis => bare(dis(sheet, names, counts, line, ends, from)),
         RuleWord::In => in_rule(sheet, names, counts, line, ends, from),
-        RuleWord::Rel => {
-            let u = crate::numbers::role_use(sheet, names, counts, line, ends, from);
-            let a = crate::numbers::item(sheet, names, counts, line, ends, from + 1);
-            let b = crate::numbers::item(sheet, names, counts, line, ends, from + 2);
-            bare(Head::Rel(u, a, b))
-        }
-        RuleWord::NoRel => {
-            let u = crate::numbers::role_use(sheet, names, counts, line, ends, from);
-            let a = crate::numbers::item(sheet, names, counts, line, ends, from + 1);
-            let b = crate::numbers::item(sheet, names, counts, line, ends, from + 2);
-            bare(Head::NoRel(u, a, b))
-        }
-        RuleWord::Same => {
-            let a = crate::numbers::item(sheet, names, counts, line, ends, from);
-            let b = crate::numbers::item(sheet, names, counts, line, ends, from + 1);
-            bare(Head::Same(a, b))
-        }
-        RuleWord::Differ => {
-            let a = crate::numbers::item(sheet, names, counts, line, ends, from);
-            let b = crate::numbers::item(sheet, names, counts, line, ends, from + 1);
-            bare(Head::Differ(a, b))
-        }
+        RuleWord::Rel => bare(rel(sheet, names, counts, line, ends, from)),
+        RuleWord::NoRel => bare(no_rel(sheet, names, counts, line, ends, from)),
+        RuleWord::Same => bare(same(sheet, names, counts, line, ends, from)),
+        RuleWord::Differ => bare(differ(sheet, names, counts, line, ends, from)),
     }
 }

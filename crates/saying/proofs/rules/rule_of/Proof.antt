@@ -1,14 +1,13 @@
 -- `saying::rules::rule_of` meets its contract, word by word. Assumes nothing.
-use mathlib.Core.Path.{_∙_, ap, ap₂}
-use borrow.Author.Needs.{needs}
+use mathlib.Core.Path.{_∙_, ap}
 use Rattle.text.specs.Split.{fields}
-use Rattle.store.specs.declared.Item.{Item}
 use Rattle.rule.specs.declared.Head.{Head}
 use Rattle.rule.specs.declared.Head.the-variants as head
 use Rattle.rule.specs.declared.RoleUse.{RoleUse}
 use Rattle.field.specs.own.Table.{namesOf, tableOf}
-use Rattle.saying.specs.Read.{bare as bareRule, itemOf, roleUseOf}
-use Rattle.saying.specs.laws.Fields.{ap₃, field-from, first-from}
+use Rattle.saying.specs.Read.{bare as bareRule, roleUseOf}
+use Rattle.saying.specs.laws.Fields.{first-from}
+use borrow.Author.Needs.{needs}
 use Rattle.saying.proofs.rules.rule_of.Statement.{statement}
 use Rattle.saying.proofs.rules.rule_of.Tie as tie
 
@@ -21,14 +20,8 @@ sub-requires c κs = (c .before .before .before .before .before .before .pre .0,
 enum-told-2 : tie.Need-enum-told-2
 enum-told-2 c = search needs
 
-role-use-requires : tie.Need-role-use-requires
-role-use-requires c κs = search needs
-
-add-role-use : tie.Need-add-role-use
-add-role-use c = search needs
-
-role-use-requires-2 : tie.Need-role-use-requires-2
-role-use-requires-2 c κs = search needs
+role-sub-requires : tie.Need-role-sub-requires
+role-sub-requires c κs = search needs
 
 bare-requires : tie.Need-bare-requires
 bare-requires c κs = search needs
@@ -45,8 +38,8 @@ bare-requires-2 c κs = search needs
 enum-told-4 : tie.Need-enum-told-4
 enum-told-4 c = search needs
 
-role-use-requires-3 : tie.Need-role-use-requires-3
-role-use-requires-3 c κs = search needs
+role-use-requires : tie.Need-role-use-requires
+role-use-requires c κs = search needs
 
 bare-requires-3 : tie.Need-bare-requires-3
 bare-requires-3 c κs = search needs
@@ -54,8 +47,8 @@ bare-requires-3 c κs = search needs
 enum-told-5 : tie.Need-enum-told-5
 enum-told-5 c = search needs
 
-role-use-requires-4 : tie.Need-role-use-requires-4
-role-use-requires-4 c κs = search needs
+role-use-requires-2 : tie.Need-role-use-requires-2
+role-use-requires-2 c κs = search needs
 
 bare-requires-4 : tie.Need-bare-requires-4
 bare-requires-4 c κs = search needs
@@ -63,14 +56,8 @@ bare-requires-4 c κs = search needs
 enum-told-6 : tie.Need-enum-told-6
 enum-told-6 c = search needs
 
-role-use-requires-5 : tie.Need-role-use-requires-5
-role-use-requires-5 c κs = search needs
-
-add-role-use-2 : tie.Need-add-role-use-2
-add-role-use-2 c = search needs
-
-role-use-requires-6 : tie.Need-role-use-requires-6
-role-use-requires-6 c κs = search needs
+dis-requires : tie.Need-dis-requires
+dis-requires c κs = search needs
 
 bare-requires-5 : tie.Need-bare-requires-5
 bare-requires-5 c κs = search needs
@@ -84,20 +71,8 @@ in-rule-requires c κs = (c .before .before .before .before .before .before .pre
 enum-told-8 : tie.Need-enum-told-8
 enum-told-8 c = search needs
 
-role-use-requires-7 : tie.Need-role-use-requires-7
-role-use-requires-7 c κs = search needs
-
-add-item : tie.Need-add-item
-add-item c = search needs
-
-item-requires : tie.Need-item-requires
-item-requires c κs = search needs
-
-add-item-2 : tie.Need-add-item-2
-add-item-2 c = search needs
-
-item-requires-2 : tie.Need-item-requires-2
-item-requires-2 c κs = search needs
+rel-requires : tie.Need-rel-requires
+rel-requires c κs = search needs
 
 bare-requires-6 : tie.Need-bare-requires-6
 bare-requires-6 c κs = search needs
@@ -105,20 +80,8 @@ bare-requires-6 c κs = search needs
 enum-told-9 : tie.Need-enum-told-9
 enum-told-9 c = search needs
 
-role-use-requires-8 : tie.Need-role-use-requires-8
-role-use-requires-8 c κs = search needs
-
-add-item-3 : tie.Need-add-item-3
-add-item-3 c = search needs
-
-item-requires-3 : tie.Need-item-requires-3
-item-requires-3 c κs = search needs
-
-add-item-4 : tie.Need-add-item-4
-add-item-4 c = search needs
-
-item-requires-4 : tie.Need-item-requires-4
-item-requires-4 c κs = search needs
+no-rel-requires : tie.Need-no-rel-requires
+no-rel-requires c κs = search needs
 
 bare-requires-7 : tie.Need-bare-requires-7
 bare-requires-7 c κs = search needs
@@ -126,14 +89,8 @@ bare-requires-7 c κs = search needs
 enum-told-10 : tie.Need-enum-told-10
 enum-told-10 c = search needs
 
-item-requires-5 : tie.Need-item-requires-5
-item-requires-5 c κs = search needs
-
-add-item-5 : tie.Need-add-item-5
-add-item-5 c = search needs
-
-item-requires-6 : tie.Need-item-requires-6
-item-requires-6 c κs = search needs
+same-requires : tie.Need-same-requires
+same-requires c κs = search needs
 
 bare-requires-8 : tie.Need-bare-requires-8
 bare-requires-8 c κs = search needs
@@ -141,14 +98,8 @@ bare-requires-8 c κs = search needs
 enum-told-11 : tie.Need-enum-told-11
 enum-told-11 c = search needs
 
-item-requires-7 : tie.Need-item-requires-7
-item-requires-7 c κs = search needs
-
-add-item-6 : tie.Need-add-item-6
-add-item-6 c = search needs
-
-item-requires-8 : tie.Need-item-requires-8
-item-requires-8 c κs = search needs
+differ-requires : tie.Need-differ-requires
+differ-requires c κs = search needs
 
 bare-requires-9 : tie.Need-bare-requires-9
 bare-requires-9 c κs = search needs
@@ -157,10 +108,7 @@ returns : tie.Need-returns
 returns c = rw (c .before .enum-told .given .1) (c .sub .ensures)
 
 returns-2 : tie.Need-returns-2
-returns-2 c =
-    let x = c .before .before .before .before .before .before .before .before .before .args in
-    let n = namesOf (x .sheet .now) (tableOf (x .names .now) (x .counts)) in
-    rw (c .before .before .before .enum-told2 .given .1) (c .bare .ensures ∙ ap₂ (λ (a b : RoleUse). bareRule (head.RoleSub a b)) (c .before .before .role-use .ensures ∙ ap (roleUseOf n) (first-from (fields (x .line .now)) (x .from))) (c .before .role-use2 .ensures ∙ ap (roleUseOf n) (field-from (fields (x .line .now)) (x .from) 1)))
+returns-2 c = rw (c .before .before .enum-told2 .given .1) (c .bare .ensures ∙ ap (λ (h : Head). bareRule h) (c .before .role-sub .ensures))
 
 returns-3 : tie.Need-returns-3
 returns-3 c = rw (c .before .before .enum-told3 .given .1) (c .bare2 .ensures ∙ ap (λ (h : Head). bareRule h) (c .before .chain .ensures))
@@ -169,46 +117,31 @@ returns-4 : tie.Need-returns-4
 returns-4 c =
     let x = c .before .before .before .before .before .before .before .before .args in
     let n = namesOf (x .sheet .now) (tableOf (x .names .now) (x .counts)) in
-    rw (c .before .before .enum-told4 .given .1) (c .bare3 .ensures ∙ ap (λ (u : RoleUse). bareRule (head.Ref u)) (c .before .role-use3 .ensures ∙ ap (roleUseOf n) (first-from (fields (x .line .now)) (x .from))))
+    rw (c .before .before .enum-told4 .given .1) (c .bare3 .ensures ∙ ap (λ (u : RoleUse). bareRule (head.Ref u)) (c .before .role-use .ensures ∙ ap (roleUseOf n) (first-from (fields (x .line .now)) (x .from))))
 
 returns-5 : tie.Need-returns-5
 returns-5 c =
     let x = c .before .before .before .before .before .before .before .before .args in
     let n = namesOf (x .sheet .now) (tableOf (x .names .now) (x .counts)) in
-    rw (c .before .before .enum-told5 .given .1) (c .bare4 .ensures ∙ ap (λ (u : RoleUse). bareRule (head.Irr u)) (c .before .role-use4 .ensures ∙ ap (roleUseOf n) (first-from (fields (x .line .now)) (x .from))))
+    rw (c .before .before .enum-told5 .given .1) (c .bare4 .ensures ∙ ap (λ (u : RoleUse). bareRule (head.Irr u)) (c .before .role-use2 .ensures ∙ ap (roleUseOf n) (first-from (fields (x .line .now)) (x .from))))
 
 returns-6 : tie.Need-returns-6
-returns-6 c =
-    let x = c .before .before .before .before .before .before .before .before .before .args in
-    let n = namesOf (x .sheet .now) (tableOf (x .names .now) (x .counts)) in
-    rw (c .before .before .before .enum-told6 .given .1) (c .bare5 .ensures ∙ ap₂ (λ (a b : RoleUse). bareRule (head.Dis a b)) (c .before .before .role-use5 .ensures ∙ ap (roleUseOf n) (first-from (fields (x .line .now)) (x .from))) (c .before .role-use6 .ensures ∙ ap (roleUseOf n) (field-from (fields (x .line .now)) (x .from) 1)))
+returns-6 c = rw (c .before .before .enum-told6 .given .1) (c .bare5 .ensures ∙ ap (λ (h : Head). bareRule h) (c .before .dis .ensures))
 
 returns-7 : tie.Need-returns-7
 returns-7 c = rw (c .before .enum-told7 .given .1) (c .in-rule .ensures)
 
 returns-8 : tie.Need-returns-8
-returns-8 c =
-    let x = c .before .before .before .before .before .before .before .before .before .before .args in
-    let n = namesOf (x .sheet .now) (tableOf (x .names .now) (x .counts)) in
-    rw (c .before .before .before .before .enum-told8 .given .1) (c .bare6 .ensures ∙ ap₃ (λ (u : RoleUse) (a b : Item). bareRule (head.Rel u a b)) (c .before .before .before .role-use7 .ensures ∙ ap (roleUseOf n) (first-from (fields (x .line .now)) (x .from))) (c .before .before .item .ensures ∙ ap (itemOf n) (field-from (fields (x .line .now)) (x .from) 1)) (c .before .item2 .ensures ∙ ap (itemOf n) (field-from (fields (x .line .now)) (x .from) 2)))
+returns-8 c = rw (c .before .before .enum-told8 .given .1) (c .bare6 .ensures ∙ ap (λ (h : Head). bareRule h) (c .before .rel .ensures))
 
 returns-9 : tie.Need-returns-9
-returns-9 c =
-    let x = c .before .before .before .before .before .before .before .before .before .before .args in
-    let n = namesOf (x .sheet .now) (tableOf (x .names .now) (x .counts)) in
-    rw (c .before .before .before .before .enum-told9 .given .1) (c .bare7 .ensures ∙ ap₃ (λ (u : RoleUse) (a b : Item). bareRule (head.NoRel u a b)) (c .before .before .before .role-use8 .ensures ∙ ap (roleUseOf n) (first-from (fields (x .line .now)) (x .from))) (c .before .before .item3 .ensures ∙ ap (itemOf n) (field-from (fields (x .line .now)) (x .from) 1)) (c .before .item4 .ensures ∙ ap (itemOf n) (field-from (fields (x .line .now)) (x .from) 2)))
+returns-9 c = rw (c .before .before .enum-told9 .given .1) (c .bare7 .ensures ∙ ap (λ (h : Head). bareRule h) (c .before .no-rel .ensures))
 
 returns-10 : tie.Need-returns-10
-returns-10 c =
-    let x = c .before .before .before .before .before .before .before .before .before .args in
-    let n = namesOf (x .sheet .now) (tableOf (x .names .now) (x .counts)) in
-    rw (c .before .before .before .enum-told10 .given .1) (c .bare8 .ensures ∙ ap₂ (λ (a b : Item). bareRule (head.Same a b)) (c .before .before .item5 .ensures ∙ ap (itemOf n) (first-from (fields (x .line .now)) (x .from))) (c .before .item6 .ensures ∙ ap (itemOf n) (field-from (fields (x .line .now)) (x .from) 1)))
+returns-10 c = rw (c .before .before .enum-told10 .given .1) (c .bare8 .ensures ∙ ap (λ (h : Head). bareRule h) (c .before .same .ensures))
 
 returns-11 : tie.Need-returns-11
-returns-11 c =
-    let x = c .before .before .before .before .before .before .before .before .before .args in
-    let n = namesOf (x .sheet .now) (tableOf (x .names .now) (x .counts)) in
-    rw (c .before .before .before .enum-told11 .given .1) (c .bare9 .ensures ∙ ap₂ (λ (a b : Item). bareRule (head.Differ a b)) (c .before .before .item7 .ensures ∙ ap (itemOf n) (first-from (fields (x .line .now)) (x .from))) (c .before .item8 .ensures ∙ ap (itemOf n) (field-from (fields (x .line .now)) (x .from) 1)))
+returns-11 c = rw (c .before .before .enum-told11 .given .1) (c .bare9 .ensures ∙ ap (λ (h : Head). bareRule h) (c .before .differ .ensures))
 
 pub rule-of-spec : {M : Type 1} → statement M
 rule-of-spec =
@@ -217,49 +150,33 @@ rule-of-spec =
     enum-told
     sub-requires
     enum-told-2
-    role-use-requires
-    add-role-use
-    role-use-requires-2
+    role-sub-requires
     bare-requires
     enum-told-3
     chain-requires
     bare-requires-2
     enum-told-4
-    role-use-requires-3
+    role-use-requires
     bare-requires-3
     enum-told-5
-    role-use-requires-4
+    role-use-requires-2
     bare-requires-4
     enum-told-6
-    role-use-requires-5
-    add-role-use-2
-    role-use-requires-6
+    dis-requires
     bare-requires-5
     enum-told-7
     in-rule-requires
     enum-told-8
-    role-use-requires-7
-    add-item
-    item-requires
-    add-item-2
-    item-requires-2
+    rel-requires
     bare-requires-6
     enum-told-9
-    role-use-requires-8
-    add-item-3
-    item-requires-3
-    add-item-4
-    item-requires-4
+    no-rel-requires
     bare-requires-7
     enum-told-10
-    item-requires-5
-    add-item-5
-    item-requires-6
+    same-requires
     bare-requires-8
     enum-told-11
-    item-requires-7
-    add-item-6
-    item-requires-8
+    differ-requires
     bare-requires-9
     returns
     returns-2
