@@ -84,7 +84,7 @@ pub fn cell(sheet: &[u8], names: &[u32], counts: Counts, q: &[u8]) -> CellAsked
         rules: 0,
     };
     let mut ends = [0u16; Sheet::FIELDS];
-    let s = text::scan::line(q, 0, &mut ends);
+    let s = text::line::look_from(q, 0, &mut ends);
     if s.end < q.len() {
         return no_cell();
     }

@@ -98,7 +98,7 @@ fn put_lines(sheet: &[u8], marks: &[u64; Lines::WORDS], room: &mut [u8]) -> Prin
     let mut n = 0;
     let mut p = Printed { at: 0, total: 0 };
     while at <= sheet.len() {
-        let s = text::scan::line(sheet, at, &mut ends);
+        let s = text::line::look_from(sheet, at, &mut ends);
         let end = s.end;
         let k = row::number::lesser(s.count, Sheet::FIELDS);
         let bytes = &sheet[at..end];

@@ -1,6 +1,9 @@
 ghost use mathlib.Core.Path.{_≡_};
-ghost use Prim.Native.Nat.{_+_};
+ghost use Prim.Native.Nat.{_+_, _≤_, _<_};
+ghost use lib.ListN.{length};
+ghost use Rattle.text.specs.own.Scan.{Scanned};
 ghost use Rattle.text.specs.own.Split.{fieldAt, fieldFrom, pastField};
+use crate::scan::Scan;
 
 // The field at a place of a line, from its start to its end; or none any more.
 pub enum Next {
@@ -8,7 +11,7 @@ pub enum Next {
     End,
 }
 
-// The reader of a line: the line it reads and its place in it.
+// The reader of a line: the line that it reads, or the text that the line stands in, and its place there.
 pub struct Reader<'a> {
     pub line: &'a [u8],
     pub at: usize,
@@ -25,7 +28,7 @@ fn field_at(line: &[u8], at: usize) -> Next
     Next::End
 }
 
-// The reader of a line at a place of it.
+// The reader at a place of a line or of a text.
 pub fn reader_at<'a>(line: &'a [u8], at: usize) -> Reader<'a>
     ensures { λ r. ⌜ (r .line ≡ line .entry) × (r .at ≡ at) ⌝ }
 {
@@ -39,6 +42,14 @@ impl<'a> Reader<'a> {
     {
         field_at(self.line, self.at)
     }
+
+    // One look at the line that the reader stands at: the ends of its fields go into the lent room.
+    pub fn look(self, ends: &mut [u16]) -> Scan
+        requires { ⌜ (self .at ≤ length (now (self .line))) × (length (now (self .line)) < 65536) ⌝ }
+        ensures { λ r. ⌜ Scanned (now (self .entry .line)) (self .entry .at) (now (ends .entry)) (now (ends .exit)) r ⌝ }
+    {
+        crate::scan::line(self.line, self.at, ends)
+    }
 }
 
 // The field at a place of a line, by a reader that stands there.
@@ -46,6 +57,14 @@ pub fn next_from(line: &[u8], at: usize) -> Next
     ensures { λ r. ⌜ r ≡ fieldAt (now (line .entry)) at ⌝ }
 {
     reader_at(line, at).next_field()
+}
+
+// One look at the line that starts at a place of the text, by a reader that stands there.
+pub fn look_from(text: &[u8], at: usize, ends: &mut [u16]) -> Scan
+    requires { ⌜ (at ≤ length (now text)) × (length (now text) < 65536) ⌝ }
+    ensures { λ r. ⌜ Scanned (now (text .entry)) at (now (ends .entry)) (now (ends .exit)) r ⌝ }
+{
+    reader_at(text, at).look(ends)
 }
 
 // The bytes of the field at a place of a line; none where there is no field any more.

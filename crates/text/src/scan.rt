@@ -97,7 +97,7 @@ fn skip_one(text: &[u8], at: usize, from: usize) -> usize
 }
 
 // One look at the line that starts at a place of the text: the end of each field, counted from the line's start, goes into the lent room, as far as it reaches.
-pub fn line(text: &[u8], at: usize, ends: &mut [u16]) -> Scan
+pub(crate) fn line(text: &[u8], at: usize, ends: &mut [u16]) -> Scan
     requires { ⌜ (at ≤ length (now text)) × (length (now text) < 65536) ⌝ }
     ensures { λ r. ⌜ Scanned (now (text .entry)) at (now (ends .entry)) (now (ends .exit)) r ⌝ }
 {

@@ -17,17 +17,17 @@ no-cell-requires c κs = search needs
 returns : tie.Need-returns
 returns c = asking-long _ _ _ (c .before .if1 .taken) (c .no-cell .ensures)
 
-slice-aggregate-line : tie.Need-slice-aggregate-line
-slice-aggregate-line c = search needs
+slice-aggregate-look-from : tie.Need-slice-aggregate-look-from
+slice-aggregate-look-from c = search needs
 
-line-requires : tie.Need-line-requires
-line-requires c κs = (omega arith, omega (arith, c .before .if1 .left))
+look-from-requires : tie.Need-look-from-requires
+look-from-requires c κs = (omega arith, omega (arith, c .before .if1 .left))
 
 no-cell-requires-2 : tie.Need-no-cell-requires-2
 no-cell-requires-2 c κs = search needs
 
 returns-2 : tie.Need-returns-2
-returns-2 c = asking-feed _ _ _ (omega (arith, c .before .before .before .before .line .ensures .end, c .before .if2 .taken)) (c .no-cell2 .ensures)
+returns-2 c = asking-feed _ _ _ (omega (arith, c .before .before .before .before .look-from .ensures .end, c .before .if2 .taken)) (c .no-cell2 .ensures)
 
 lesser-requires : tie.Need-lesser-requires
 lesser-requires c κs = search needs
@@ -40,8 +40,8 @@ slice-aggregate-line-fault c = sym (length-take-le _ _ (omega (arith, c .before 
 
 line-fault-requires : tie.Need-line-fault-requires
 line-fault-requires c κs =
-    let whole = whole-line (c .before .before .before .before .before .before .before .before .before .before .before .args .q .now) (omega (arith, c .before .before .before .before .before .line .ensures .end, c .before .before .if2 .left)) in
-    (c .before .before .before .before .before .before .before .before .before .before .before .pre, c .before .before .before .before .before .line .ensures .good ∙ ap (every lineByte) whole, λ short. rw whole at (looked (c .before .before .before .before .before .line .ensures) _ (c .before .lesser .ensures) (omega (arith, ap length whole, short))))
+    let whole = whole-line (c .before .before .before .before .before .before .before .before .before .before .before .args .q .now) (omega (arith, c .before .before .before .before .before .look-from .ensures .end, c .before .before .if2 .left)) in
+    (c .before .before .before .before .before .before .before .before .before .before .before .pre, c .before .before .before .before .before .look-from .ensures .good ∙ ap (every lineByte) whole, λ short. rw whole at (looked (c .before .before .before .before .before .look-from .ensures) _ (c .before .lesser .ensures) (omega (arith, ap length whole, short))))
 
 array-share-prefix-ends-2 : tie.Need-array-share-prefix-ends-2
 array-share-prefix-ends-2 c = omega (arith, c .before .before .before .lesser .ensures)
@@ -51,8 +51,8 @@ slice-aggregate-stated c = sym (length-take-le _ _ (omega (arith, c .before .bef
 
 stated-requires : tie.Need-stated-requires
 stated-requires c κs =
-    let whole = whole-line (c .before .before .before .before .before .before .before .before .before .before .before .before .before .before .args .q .now) (omega (arith, c .before .before .before .before .before .before .before .before .line .ensures .end, c .before .before .before .before .before .if2 .left)) in
-    (c .before .before .before .before .before .before .before .before .before .before .before .before .before .before .pre, rw whole at (looked (c .before .before .before .before .before .before .before .before .line .ensures) _ (c .before .before .before .before .lesser .ensures) (omega (arith, ap length whole, c .before .before .before .before .before .before .before .before .before .before .if1 .left))))
+    let whole = whole-line (c .before .before .before .before .before .before .before .before .before .before .before .before .before .before .args .q .now) (omega (arith, c .before .before .before .before .before .before .before .before .look-from .ensures .end, c .before .before .before .before .before .if2 .left)) in
+    (c .before .before .before .before .before .before .before .before .before .before .before .before .before .before .pre, rw whole at (looked (c .before .before .before .before .before .before .before .before .look-from .ensures) _ (c .before .before .before .before .lesser .ensures) (omega (arith, ap length whole, c .before .before .before .before .before .before .before .before .before .before .if1 .left))))
 
 returns-3 : tie.Need-returns-3
 returns-3 c = asking-form _ _ _ (sym (c .before .before .before .line-fault .ensures) ∙ c .before .before .if3 .taken) (c .stated .ensures)
@@ -69,8 +69,8 @@ cell-spec =
     (tie.spec
     no-cell-requires
     returns
-    slice-aggregate-line
-    line-requires
+    slice-aggregate-look-from
+    look-from-requires
     no-cell-requires-2
     returns-2
     lesser-requires

@@ -39,23 +39,23 @@ add-at c = omega (arith, (c .end-of .ensures), end-le 10 (c .before .before .bef
 loop-holds : tie.Need-loop-holds Inv-loop μ-loop
 loop-holds c = ((λ x o. written-start (standing-start (c .before .before .before .args .sheet .now) x _ (c .end-of .ensures) o)), omega arith, omega arith, omega arith, omega arith, omega (arith, (c .end-of .ensures), end-le 10 (c .before .before .before .args .sheet .now) 0 zero-le), refl, refl)
 
-slice-aggregate-line : tie.Need-slice-aggregate-line Inv-loop μ-loop
-slice-aggregate-line c = search needs
+slice-aggregate-look-from : tie.Need-slice-aggregate-look-from Inv-loop μ-loop
+slice-aggregate-look-from c = search needs
 
-line-requires : tie.Need-line-requires Inv-loop μ-loop
-line-requires c κs = (omega arith, omega (arith, sheet-short (c .before .before .before .before .before .before .pre)))
+look-from-requires : tie.Need-look-from-requires Inv-loop μ-loop
+look-from-requires c κs = (omega arith, omega (arith, sheet-short (c .before .before .before .before .before .before .pre)))
 
 lesser-requires : tie.Need-lesser-requires Inv-loop μ-loop
 lesser-requires c κs = tt
 
 sub-bytes : tie.Need-sub-bytes Inv-loop μ-loop
-sub-bytes c = omega (arith, c .before .before .line .ensures .end, end-ge 10 (c .before .before .before .before .before .before .before .before .before .args .sheet .now) (c .before .before .before .before .before .loop .at))
+sub-bytes c = omega (arith, c .before .before .look-from .ensures .end, end-ge 10 (c .before .before .before .before .before .before .before .before .before .args .sheet .now) (c .before .before .before .before .before .loop .at))
 
 part-bytes-start : tie.Need-part-bytes-start Inv-loop μ-loop
-part-bytes-start c = omega (arith, c .before .before .line .ensures .end, end-ge 10 (c .before .before .before .before .before .before .before .before .before .args .sheet .now) (c .before .before .before .before .before .loop .at))
+part-bytes-start c = omega (arith, c .before .before .look-from .ensures .end, end-ge 10 (c .before .before .before .before .before .before .before .before .before .args .sheet .now) (c .before .before .before .before .before .loop .at))
 
 part-bytes-end : tie.Need-part-bytes-end Inv-loop μ-loop
-part-bytes-end c = omega (arith, c .before .before .line .ensures .end, end-le 10 (c .before .before .before .before .before .before .before .before .before .args .sheet .now) (c .before .before .before .before .before .loop .at) (omega arith))
+part-bytes-end c = omega (arith, c .before .before .look-from .ensures .end, end-le 10 (c .before .before .before .before .before .before .before .before .before .args .sheet .now) (c .before .before .before .before .before .loop .at) (omega arith))
 
 array-share-prefix-ends : tie.Need-array-share-prefix-ends Inv-loop μ-loop
 array-share-prefix-ends c = omega (arith, c .before .lesser .ensures)
@@ -65,14 +65,14 @@ slice-aggregate-is-statement c = sym (length-take-le _ _ (omega (arith, c .befor
 
 is-statement-requires : tie.Need-is-statement-requires Inv-loop μ-loop
 is-statement-requires c κs =
-    let few = written-short ((c .before .before .before .before .before .before .before .loop .inv .0) (c .before .before .before .before .before .before .before .before .before .before .before .pre .said) (c .before .before .before .before .before .before .before .before .before .before .before .pre .ends)) (c .before .before .before .before .line .result .end) (lineAt (c .before .before .before .before .before .before .before .before .before .before .before .args .sheet .now) (c .before .before .before .before .before .before .before .loop .at)) (omega (arith, c .before .before .before .before .before .before .loop-test .taken)) (c .before .before .before .before .line .ensures .end) refl in
-    rw (c .before .before .before .before .line .ensures .end) (looked (c .before .before .before .before .line .ensures) _ (c .before .before .lesser .ensures ∙ ap (min (c .before .before .before .before .line .result .count)) (sym (c .before .before .before .before .before .before .before .loop .inv .7))) (omega (arith, few, c .before .before .before .before .before .before .before .loop .inv .7)))
+    let few = written-short ((c .before .before .before .before .before .before .before .loop .inv .0) (c .before .before .before .before .before .before .before .before .before .before .before .pre .said) (c .before .before .before .before .before .before .before .before .before .before .before .pre .ends)) (c .before .before .before .before .look-from .result .end) (lineAt (c .before .before .before .before .before .before .before .before .before .before .before .args .sheet .now) (c .before .before .before .before .before .before .before .loop .at)) (omega (arith, c .before .before .before .before .before .before .loop-test .taken)) (c .before .before .before .before .look-from .ensures .end) refl in
+    rw (c .before .before .before .before .look-from .ensures .end) (looked (c .before .before .before .before .look-from .ensures) _ (c .before .before .lesser .ensures ∙ ap (min (c .before .before .before .before .look-from .result .count)) (sym (c .before .before .before .before .before .before .before .loop .inv .7))) (omega (arith, few, c .before .before .before .before .before .before .before .loop .inv .7)))
 
 marked-if-requires : tie.Need-marked-if-requires Inv-loop μ-loop
-marked-if-requires c κs = λ e. omega (arith, (c .before .before .before .before .before .before .before .before .before .before .before .before .pre .few), written-few ((c .before .before .before .before .before .before .before .before .loop .inv .0) (c .before .before .before .before .before .before .before .before .before .before .before .before .pre .said) (c .before .before .before .before .before .before .before .before .before .before .before .before .pre .ends)) _ _ (omega (arith, (c .before .before .before .before .before .before .before .loop-test .taken))) (c .before .before .before .before .before .line .ensures .end) (line-is (c .before .before .before .before .before .before .before .before .before .before .before .before .args .sheet .now) (c .before .before .before .before .before .before .before .before .loop .at) (c .before .before .before .before .before .line .ensures .end)) (sym (c .is-statement .ensures) ∙ e))
+marked-if-requires c κs = λ e. omega (arith, (c .before .before .before .before .before .before .before .before .before .before .before .before .pre .few), written-few ((c .before .before .before .before .before .before .before .before .loop .inv .0) (c .before .before .before .before .before .before .before .before .before .before .before .before .pre .said) (c .before .before .before .before .before .before .before .before .before .before .before .before .pre .ends)) _ _ (omega (arith, (c .before .before .before .before .before .before .before .loop-test .taken))) (c .before .before .before .before .before .look-from .ensures .end) (line-is (c .before .before .before .before .before .before .before .before .before .before .before .before .args .sheet .now) (c .before .before .before .before .before .before .before .before .loop .at) (c .before .before .before .before .before .look-from .ensures .end)) (sym (c .is-statement .ensures) ∙ e))
 
 put-line-if-requires : tie.Need-put-line-if-requires Inv-loop μ-loop
-put-line-if-requires c κs = (omega (arith, (c .before .before .before .before .before .before .before .before .before .before .loop .inv .2), (c .before .before .before .before .before .before .before .before .before .before .loop .inv .5), sheet-short (c .before .before .before .before .before .before .before .before .before .before .before .before .before .before .pre)), omega (arith, (c .before .before .before .before .before .before .before .before .before .before .loop .inv .3), (c .before .before .before .before .before .before .before .before .before .before .loop .inv .5), sheet-short (c .before .before .before .before .before .before .before .before .before .before .before .before .before .before .pre)), omega (arith, part-length (c .before .before .before .before .before .before .before .before .before .before .before .before .before .before .args .sheet .now) (c .before .before .before .before .before .before .before .before .before .before .loop .at) (c .before .before .before .before .before .before .before .line .result .end), (c .before .before .before .before .before .before .before .line .ensures .end), end-le 10 (c .before .before .before .before .before .before .before .before .before .before .before .before .before .before .args .sheet .now) (c .before .before .before .before .before .before .before .before .before .before .loop .at) (omega (arith, (c .before .before .before .before .before .before .before .before .before .loop-test .taken))), sheet-short (c .before .before .before .before .before .before .before .before .before .before .before .before .before .before .pre)))
+put-line-if-requires c κs = (omega (arith, (c .before .before .before .before .before .before .before .before .before .before .loop .inv .2), (c .before .before .before .before .before .before .before .before .before .before .loop .inv .5), sheet-short (c .before .before .before .before .before .before .before .before .before .before .before .before .before .before .pre)), omega (arith, (c .before .before .before .before .before .before .before .before .before .before .loop .inv .3), (c .before .before .before .before .before .before .before .before .before .before .loop .inv .5), sheet-short (c .before .before .before .before .before .before .before .before .before .before .before .before .before .before .pre)), omega (arith, part-length (c .before .before .before .before .before .before .before .before .before .before .before .before .before .before .args .sheet .now) (c .before .before .before .before .before .before .before .before .before .before .loop .at) (c .before .before .before .before .before .before .before .look-from .result .end), (c .before .before .before .before .before .before .before .look-from .ensures .end), end-le 10 (c .before .before .before .before .before .before .before .before .before .before .before .before .before .before .args .sheet .now) (c .before .before .before .before .before .before .before .before .before .before .loop .at) (omega (arith, (c .before .before .before .before .before .before .before .before .before .loop-test .taken))), sheet-short (c .before .before .before .before .before .before .before .before .before .before .before .before .before .before .pre)))
 
 more-if-requires : tie.Need-more-if-requires Inv-loop μ-loop
 more-if-requires c κs = omega (arith, (c .before .before .before .before .before .before .before .before .before .before .before .before .before .loop .inv .4), (c .before .before .before .before .before .before .before .before .before .before .before .before .before .loop .inv .5), sheet-short (c .before .before .before .before .before .before .before .before .before .before .before .before .before .before .before .before .before .pre))
@@ -81,21 +81,21 @@ add-line : tie.Need-add-line Inv-loop μ-loop
 add-line c = omega (arith, (c .before .before .before .before .before .before .before .before .before .before .before .before .before .before .loop .inv .1), (c .before .before .before .before .before .before .before .before .before .before .before .before .before .before .loop .inv .5), sheet-short (c .before .before .before .before .before .before .before .before .before .before .before .before .before .before .before .before .before .before .pre))
 
 add-at-2 : tie.Need-add-at-2 Inv-loop μ-loop
-add-at-2 c = omega (arith, (c .before .before .before .before .before .before .before .before .before .before .before .line .ensures .end), end-le 10 (c .before .before .before .before .before .before .before .before .before .before .before .before .before .before .before .before .before .before .args .sheet .now) (c .before .before .before .before .before .before .before .before .before .before .before .before .before .before .loop .at) (omega (arith, (c .before .before .before .before .before .before .before .before .before .before .before .before .before .loop-test .taken))), sheet-short (c .before .before .before .before .before .before .before .before .before .before .before .before .before .before .before .before .before .before .pre))
+add-at-2 c = omega (arith, (c .before .before .before .before .before .before .before .before .before .before .before .look-from .ensures .end), end-le 10 (c .before .before .before .before .before .before .before .before .before .before .before .before .before .before .before .before .before .before .args .sheet .now) (c .before .before .before .before .before .before .before .before .before .before .before .before .before .before .loop .at) (omega (arith, (c .before .before .before .before .before .before .before .before .before .before .before .before .before .loop-test .taken))), sheet-short (c .before .before .before .before .before .before .before .before .before .before .before .before .before .before .before .before .before .before .pre))
 
 loop-less : tie.Need-loop-less Inv-loop μ-loop
-loop-less c = omega (arith, (c .before .before .before .before .before .before .before .before .before .before .before .line .ensures .end), end-ge 10 (c .before .before .before .before .before .before .before .before .before .before .before .before .before .before .before .before .before .before .args .sheet .now) (c .before .before .before .before .before .before .before .before .before .before .before .before .before .before .loop .at), (c .before .before .before .before .before .before .before .before .before .before .before .before .before .loop-test .taken))
+loop-less c = omega (arith, (c .before .before .before .before .before .before .before .before .before .before .before .look-from .ensures .end), end-ge 10 (c .before .before .before .before .before .before .before .before .before .before .before .before .before .before .before .before .before .before .args .sheet .now) (c .before .before .before .before .before .before .before .before .before .before .before .before .before .before .loop .at), (c .before .before .before .before .before .before .before .before .before .before .before .before .before .loop-test .taken))
 
 loop-again : tie.Need-loop-again Inv-loop μ-loop
 loop-again c =
-    let long = part-length (c .before .before .before .before .before .before .before .before .before .before .before .before .before .before .before .before .before .before .args .sheet .now) (c .before .before .before .before .before .before .before .before .before .before .before .before .before .before .loop .at) (c .before .before .before .before .before .before .before .before .before .before .before .line .result .end) in
+    let long = part-length (c .before .before .before .before .before .before .before .before .before .before .before .before .before .before .before .before .before .before .args .sheet .now) (c .before .before .before .before .before .before .before .before .before .before .before .before .before .before .loop .at) (c .before .before .before .before .before .before .before .before .before .before .before .look-from .result .end) in
     let past = end-ge 10 (c .before .before .before .before .before .before .before .before .before .before .before .before .before .before .before .before .before .before .args .sheet .now) (c .before .before .before .before .before .before .before .before .before .before .before .before .before .before .loop .at) in (
-      (λ x o. written-next ((c .before .before .before .before .before .before .before .before .before .before .before .before .before .before .loop .inv .0) x o) _ _ (omega (arith, (c .before .before .before .before .before .before .before .before .before .before .before .before .before .loop-test .taken))) (c .before .before .before .before .before .before .before .before .before .before .before .line .ensures .end) (line-is (c .before .before .before .before .before .before .before .before .before .before .before .before .before .before .before .before .before .before .args .sheet .now) (c .before .before .before .before .before .before .before .before .before .before .before .before .before .before .loop .at) (c .before .before .before .before .before .before .before .before .before .before .before .line .ensures .end)) _ ((c .before .before .before .before .before .marked-if .ensures) ∙ ap (λ (s : Bool). cond s (rowHasb (c .before .before .before .before .before .before .before .before .before .before .before .before .before .before .before .before .before .before .args .marks .now) (c .before .before .before .before .before .before .before .before .before .before .before .before .before .before .loop .n)) false) (c .before .before .before .before .before .before .is-statement .ensures)) (c .before .before .before .put-line-if .ensures) ((c .more-if .ensures) ∙ ap (λ (s : Bool). (c .before .before .before .before .before .before .before .before .before .before .before .before .before .before .loop .n) + cond s 1 0) (c .before .before .before .before .before .before .is-statement .ensures))),
-      omega (arith, (c .before .before .before .before .before .before .before .before .before .before .before .before .before .before .loop .inv .1), past, (c .before .before .before .before .before .before .before .before .before .before .before .line .ensures .end)),
-      room-grows _ ((c .before .before .before .before .before .marked-if .ensures) ∙ ap (λ (s : Bool). cond s (rowHasb (c .before .before .before .before .before .before .before .before .before .before .before .before .before .before .before .before .before .before .args .marks .now) (c .before .before .before .before .before .before .before .before .before .before .before .before .before .before .loop .n)) false) (c .before .before .before .before .before .before .is-statement .ensures)) (c .before .before .before .put-line-if .ensures) long (omega (arith, past, (c .before .before .before .before .before .before .before .before .before .before .before .line .ensures .end))) (c .before .before .before .before .before .before .before .before .before .before .before .before .before .before .loop .inv .2),
-      omega (arith, (c .before .before .before .put-line-if .ensures .total), one-at-most (c .before .before .before .before .before .marked-if .result), (c .before .before .before .before .before .before .before .before .before .before .before .before .before .before .loop .inv .3), past, (c .before .before .before .before .before .before .before .before .before .before .before .line .ensures .end)),
-      omega (arith, (c .more-if .ensures), one-at-most (c .before .before .before .before .before .before .is-statement .result), (c .before .before .before .before .before .before .before .before .before .before .before .before .before .before .loop .inv .4), past, (c .before .before .before .before .before .before .before .before .before .before .before .line .ensures .end)),
-      omega (arith, (c .before .before .before .before .before .before .before .before .before .before .before .line .ensures .end), end-le 10 (c .before .before .before .before .before .before .before .before .before .before .before .before .before .before .before .before .before .before .args .sheet .now) (c .before .before .before .before .before .before .before .before .before .before .before .before .before .before .loop .at) (omega (arith, (c .before .before .before .before .before .before .before .before .before .before .before .before .before .loop-test .taken)))),
+      (λ x o. written-next ((c .before .before .before .before .before .before .before .before .before .before .before .before .before .before .loop .inv .0) x o) _ _ (omega (arith, (c .before .before .before .before .before .before .before .before .before .before .before .before .before .loop-test .taken))) (c .before .before .before .before .before .before .before .before .before .before .before .look-from .ensures .end) (line-is (c .before .before .before .before .before .before .before .before .before .before .before .before .before .before .before .before .before .before .args .sheet .now) (c .before .before .before .before .before .before .before .before .before .before .before .before .before .before .loop .at) (c .before .before .before .before .before .before .before .before .before .before .before .look-from .ensures .end)) _ ((c .before .before .before .before .before .marked-if .ensures) ∙ ap (λ (s : Bool). cond s (rowHasb (c .before .before .before .before .before .before .before .before .before .before .before .before .before .before .before .before .before .before .args .marks .now) (c .before .before .before .before .before .before .before .before .before .before .before .before .before .before .loop .n)) false) (c .before .before .before .before .before .before .is-statement .ensures)) (c .before .before .before .put-line-if .ensures) ((c .more-if .ensures) ∙ ap (λ (s : Bool). (c .before .before .before .before .before .before .before .before .before .before .before .before .before .before .loop .n) + cond s 1 0) (c .before .before .before .before .before .before .is-statement .ensures))),
+      omega (arith, (c .before .before .before .before .before .before .before .before .before .before .before .before .before .before .loop .inv .1), past, (c .before .before .before .before .before .before .before .before .before .before .before .look-from .ensures .end)),
+      room-grows _ ((c .before .before .before .before .before .marked-if .ensures) ∙ ap (λ (s : Bool). cond s (rowHasb (c .before .before .before .before .before .before .before .before .before .before .before .before .before .before .before .before .before .before .args .marks .now) (c .before .before .before .before .before .before .before .before .before .before .before .before .before .before .loop .n)) false) (c .before .before .before .before .before .before .is-statement .ensures)) (c .before .before .before .put-line-if .ensures) long (omega (arith, past, (c .before .before .before .before .before .before .before .before .before .before .before .look-from .ensures .end))) (c .before .before .before .before .before .before .before .before .before .before .before .before .before .before .loop .inv .2),
+      omega (arith, (c .before .before .before .put-line-if .ensures .total), one-at-most (c .before .before .before .before .before .marked-if .result), (c .before .before .before .before .before .before .before .before .before .before .before .before .before .before .loop .inv .3), past, (c .before .before .before .before .before .before .before .before .before .before .before .look-from .ensures .end)),
+      omega (arith, (c .more-if .ensures), one-at-most (c .before .before .before .before .before .before .is-statement .result), (c .before .before .before .before .before .before .before .before .before .before .before .before .before .before .loop .inv .4), past, (c .before .before .before .before .before .before .before .before .before .before .before .look-from .ensures .end)),
+      omega (arith, (c .before .before .before .before .before .before .before .before .before .before .before .look-from .ensures .end), end-le 10 (c .before .before .before .before .before .before .before .before .before .before .before .before .before .before .before .before .before .before .args .sheet .now) (c .before .before .before .before .before .before .before .before .before .before .before .before .before .before .loop .at) (omega (arith, (c .before .before .before .before .before .before .before .before .before .before .before .before .before .loop-test .taken)))),
       (c .before .before .room .given) ∙ (c .before .before .before .before .before .before .before .before .before .before .before .before .before .before .loop .inv .6),
       c .before .before .before .before .before .before .before .before .before .before .ends2 .given,
     )
@@ -116,8 +116,8 @@ put-lines-spec =
     end-of-requires
     add-at
     loop-holds
-    slice-aggregate-line
-    line-requires
+    slice-aggregate-look-from
+    look-from-requires
     lesser-requires
     sub-bytes
     part-bytes-start

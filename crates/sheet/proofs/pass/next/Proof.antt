@@ -25,45 +25,45 @@ abbrev μ-loop : tie.MeasureT-loop
 loop-holds : tie.Need-loop-holds Inv-loop μ-loop
 loop-holds c = ((λ x done p. p), omega arith, search needs)
 
-slice-aggregate-line : tie.Need-slice-aggregate-line Inv-loop μ-loop
-slice-aggregate-line c = search needs
+slice-aggregate-look-from : tie.Need-slice-aggregate-look-from Inv-loop μ-loop
+slice-aggregate-look-from c = search needs
 
-line-requires : tie.Need-line-requires Inv-loop μ-loop
-line-requires c κs = (omega (arith, c .before .loop-test .taken), omega (arith, c .before .before .before .before .before .pre .1 .passing .short))
+look-from-requires : tie.Need-look-from-requires Inv-loop μ-loop
+look-from-requires c κs = (omega (arith, c .before .loop-test .taken), omega (arith, c .before .before .before .before .before .pre .1 .passing .short))
 
 lesser-requires : tie.Need-lesser-requires Inv-loop μ-loop
 lesser-requires c κs = search needs
 
 sub-rule-in : tie.Need-sub-rule-in Inv-loop μ-loop
-sub-rule-in c = omega (arith, c .before .before .line .ensures .end, end-ge 10 (c .before .before .before .before .before .before .before .before .args .sheet .now) (c .before .before .before .before .before .loop .at))
+sub-rule-in c = omega (arith, c .before .before .look-from .ensures .end, end-ge 10 (c .before .before .before .before .before .before .before .before .args .sheet .now) (c .before .before .before .before .before .loop .at))
 
 part-rule-in-start : tie.Need-part-rule-in-start Inv-loop μ-loop
-part-rule-in-start c = omega (arith, c .before .before .line .ensures .end, end-ge 10 (c .before .before .before .before .before .before .before .before .args .sheet .now) (c .before .before .before .before .before .loop .at))
+part-rule-in-start c = omega (arith, c .before .before .look-from .ensures .end, end-ge 10 (c .before .before .before .before .before .before .before .before .args .sheet .now) (c .before .before .before .before .before .loop .at))
 
 part-rule-in-end : tie.Need-part-rule-in-end Inv-loop μ-loop
-part-rule-in-end c = omega (arith, c .before .before .line .ensures .end, end-le 10 (c .before .before .before .before .before .before .before .before .args .sheet .now) (c .before .before .before .before .before .loop .at) (omega (arith, c .before .before .before .before .loop-test .taken)))
+part-rule-in-end c = omega (arith, c .before .before .look-from .ensures .end, end-le 10 (c .before .before .before .before .before .before .before .before .args .sheet .now) (c .before .before .before .before .before .loop .at) (omega (arith, c .before .before .before .before .loop-test .taken)))
 
 array-share-prefix-ends : tie.Need-array-share-prefix-ends Inv-loop μ-loop
 array-share-prefix-ends c = search needs
 
 slice-aggregate-rule-in : tie.Need-slice-aggregate-rule-in Inv-loop μ-loop
-slice-aggregate-rule-in c = sym (length-take-le _ _ (omega (arith, c .before .before .lesser .ensures, c .before .before .before .before .line .kept .1 .1 .0, c .before .before .before .before .before .before .before .loop .inv .2)))
+slice-aggregate-rule-in c = sym (length-take-le _ _ (omega (arith, c .before .before .lesser .ensures, c .before .before .before .before .look-from .kept .1 .1 .0, c .before .before .before .before .before .before .before .loop .inv .2)))
 
 add-rule-in : tie.Need-add-rule-in Inv-loop μ-loop
-add-rule-in c = omega (arith, c .before .before .before .before .line .ensures .end, end-le 10 (c .before .before .before .before .before .before .before .before .before .before .args .sheet .now) (c .before .before .before .before .before .before .before .loop .at) (omega (arith, c .before .before .before .before .before .before .loop-test .taken)), c .before .before .before .before .before .before .before .before .before .before .pre .1 .passing .short)
+add-rule-in c = omega (arith, c .before .before .before .before .look-from .ensures .end, end-le 10 (c .before .before .before .before .before .before .before .before .before .before .args .sheet .now) (c .before .before .before .before .before .before .before .loop .at) (omega (arith, c .before .before .before .before .before .before .loop-test .taken)), c .before .before .before .before .before .before .before .before .before .before .pre .1 .passing .short)
 
 rule-in-requires : tie.Need-rule-in-requires Inv-loop μ-loop
 rule-in-requires c κs =
     let s = c .before .before .before .before .before .before .before .before .before .before .args .sheet .now in
     let p = (c .before .before .before .before .before .before .before .loop .inv .0) _ _ (c .before .before .before .before .before .before .before .before .before .before .pre .1 .passing) in
-    let is = ap (λ (e : ℕ). partOf s (c .before .before .before .before .before .before .before .loop .at) (e - c .before .before .before .before .before .before .before .loop .at)) (c .before .before .before .before .line .ensures .end) in
-    let short = passing-short p _ _ (omega (arith, c .before .before .before .before .before .before .loop-test .taken)) (c .before .before .before .before .line .ensures .end) is in
-    (c .before .before .before .before .before .before .before .before .before .before .pre .0, rw is (looked (c .before .before .before .before .line .ensures) (c .before .before .lesser .result) (omega (arith, c .before .before .lesser .ensures, c .before .before .before .before .before .before .before .loop .inv .2)) (omega (arith, short, ap length is, c .before .before .before .before .before .before .before .loop .inv .2))), passing-ready p _ _ (omega (arith, c .before .before .before .before .before .before .loop-test .taken)) (c .before .before .before .before .line .ensures .end) is)
+    let is = ap (λ (e : ℕ). partOf s (c .before .before .before .before .before .before .before .loop .at) (e - c .before .before .before .before .before .before .before .loop .at)) (c .before .before .before .before .look-from .ensures .end) in
+    let short = passing-short p _ _ (omega (arith, c .before .before .before .before .before .before .loop-test .taken)) (c .before .before .before .before .look-from .ensures .end) is in
+    (c .before .before .before .before .before .before .before .before .before .before .pre .0, rw is (looked (c .before .before .before .before .look-from .ensures) (c .before .before .lesser .result) (omega (arith, c .before .before .lesser .ensures, c .before .before .before .before .before .before .before .loop .inv .2)) (omega (arith, short, ap length is, c .before .before .before .before .before .before .before .loop .inv .2))), passing-ready p _ _ (omega (arith, c .before .before .before .before .before .before .loop-test .taken)) (c .before .before .before .before .look-from .ensures .end) is)
 
 returns : tie.Need-returns Inv-loop μ-loop
 returns c =
     let s = c .before .before .before .before .before .before .before .before .before .before .before .before .args .sheet .now in
-    let e = c .before .before .before .before .before .before .line .ensures .end in
+    let e = c .before .before .before .before .before .before .look-from .ensures .end in
     let is = ap (λ (k : ℕ). partOf s (c .before .before .before .before .before .before .before .before .before .loop .at) (k - c .before .before .before .before .before .before .before .before .before .loop .at)) e in
     let past = passing-past ((c .before .before .before .before .before .before .before .before .before .loop .inv .0) _ _ (c .before .before .before .before .before .before .before .before .before .before .before .before .pre .1 .passing)) _ _ (omega (arith, c .before .before .before .before .before .before .before .before .loop-test .taken)) e is _ (c .before .rule-in .ensures) (c .if1 .taken) in
     record {
@@ -76,15 +76,15 @@ add-line : tie.Need-add-line Inv-loop μ-loop
 add-line c = omega (arith, (c .before .before .before .before .before .before .before .before .before .loop .inv .0) _ _ (c .before .before .before .before .before .before .before .before .before .before .before .before .pre .1 .passing) .near, (c .before .before .before .before .before .before .before .before .before .loop .inv .0) _ _ (c .before .before .before .before .before .before .before .before .before .before .before .before .pre .1 .passing) .inside, (c .before .before .before .before .before .before .before .before .before .before .before .before .pre .1 .passing .short))
 
 add-at : tie.Need-add-at Inv-loop μ-loop
-add-at c = omega (arith, c .before .before .before .before .before .before .line .ensures .end, end-le 10 (c .before .before .before .before .before .before .before .before .before .before .before .before .args .sheet .now) (c .before .before .before .before .before .before .before .before .before .loop .at) (omega (arith, c .before .before .before .before .before .before .before .before .loop-test .taken)), c .before .before .before .before .before .before .before .before .before .before .before .before .pre .1 .passing .short)
+add-at c = omega (arith, c .before .before .before .before .before .before .look-from .ensures .end, end-le 10 (c .before .before .before .before .before .before .before .before .before .before .before .before .args .sheet .now) (c .before .before .before .before .before .before .before .before .before .loop .at) (omega (arith, c .before .before .before .before .before .before .before .before .loop-test .taken)), c .before .before .before .before .before .before .before .before .before .before .before .before .pre .1 .passing .short)
 
 loop-less : tie.Need-loop-less Inv-loop μ-loop
-loop-less c = omega (arith, c .before .before .before .before .before .before .line .ensures .end, end-ge 10 (c .before .before .before .before .before .before .before .before .before .before .before .before .args .sheet .now) (c .before .before .before .before .before .before .before .before .before .loop .at), c .before .before .before .before .before .before .before .before .loop-test .taken)
+loop-less c = omega (arith, c .before .before .before .before .before .before .look-from .ensures .end, end-ge 10 (c .before .before .before .before .before .before .before .before .before .before .before .before .args .sheet .now) (c .before .before .before .before .before .before .before .before .before .loop .at), c .before .before .before .before .before .before .before .before .loop-test .taken)
 
 loop-again : tie.Need-loop-again Inv-loop μ-loop
 loop-again c =
     let s = c .before .before .before .before .before .before .before .before .before .before .before .before .args .sheet .now in
-    let e = c .before .before .before .before .before .before .line .ensures .end in
+    let e = c .before .before .before .before .before .before .look-from .ensures .end in
     let is = ap (λ (k : ℕ). partOf s (c .before .before .before .before .before .before .before .before .before .loop .at) (k - c .before .before .before .before .before .before .before .before .before .loop .at)) e in
     ((λ x done p. passing-on ((c .before .before .before .before .before .before .before .before .before .loop .inv .0) x done p) _ _ (omega (arith, c .before .before .before .before .before .before .before .before .loop-test .taken)) e is _ (c .before .rule-in .ensures) (c .if1 .left)), omega (arith, e, end-ge 10 s (c .before .before .before .before .before .before .before .before .before .loop .at), c .before .before .before .before .before .before .before .before .before .loop .inv .1), search needs)
 
@@ -106,8 +106,8 @@ next-spec =
     Inv-loop
     μ-loop
     loop-holds
-    slice-aggregate-line
-    line-requires
+    slice-aggregate-look-from
+    look-from-requires
     lesser-requires
     sub-rule-in
     part-rule-in-start

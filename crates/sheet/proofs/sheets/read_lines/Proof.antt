@@ -26,34 +26,34 @@ blank-requires c κs = search needs
 loop-holds : tie.Need-loop-holds Inv-loop μ-loop
 loop-holds c = (rw (c .blank .ensures, c .before .before .before .before .pre .1) (reads-start _ _ _ (c .before .before .before .before .pre .3) (c .before .before .before .before .pre .2)), refl, refl, search needs)
 
-slice-aggregate-line : tie.Need-slice-aggregate-line Inv-loop μ-loop
-slice-aggregate-line c = search needs
+slice-aggregate-look-from : tie.Need-slice-aggregate-look-from Inv-loop μ-loop
+slice-aggregate-look-from c = search needs
 
-line-requires : tie.Need-line-requires Inv-loop μ-loop
-line-requires c κs = (omega (arith, c .before .loop-test .taken), omega (arith, c .before .before .before .before .before .before .before .pre .0))
+look-from-requires : tie.Need-look-from-requires Inv-loop μ-loop
+look-from-requires c κs = (omega (arith, c .before .loop-test .taken), omega (arith, c .before .before .before .before .before .before .before .pre .0))
 
 lesser-requires : tie.Need-lesser-requires Inv-loop μ-loop
 lesser-requires c κs = search needs
 
 sub-read : tie.Need-sub-read Inv-loop μ-loop
-sub-read c = omega (arith, c .before .before .before .before .line .ensures .end, end-ge 10 (c .before .before .before .before .before .before .before .before .before .before .before .before .args .sheet .now) (c .before .before .before .before .before .before .before .loop .at))
+sub-read c = omega (arith, c .before .before .before .before .look-from .ensures .end, end-ge 10 (c .before .before .before .before .before .before .before .before .before .before .before .before .args .sheet .now) (c .before .before .before .before .before .before .before .loop .at))
 
 part-read-start : tie.Need-part-read-start Inv-loop μ-loop
-part-read-start c = omega (arith, c .before .before .before .before .line .ensures .end, end-ge 10 (c .before .before .before .before .before .before .before .before .before .before .before .before .args .sheet .now) (c .before .before .before .before .before .before .before .loop .at))
+part-read-start c = omega (arith, c .before .before .before .before .look-from .ensures .end, end-ge 10 (c .before .before .before .before .before .before .before .before .before .before .before .before .args .sheet .now) (c .before .before .before .before .before .before .before .loop .at))
 
 part-read-end : tie.Need-part-read-end Inv-loop μ-loop
-part-read-end c = omega (arith, c .before .before .before .before .line .ensures .end, end-le 10 (c .before .before .before .before .before .before .before .before .before .before .before .before .args .sheet .now) (c .before .before .before .before .before .before .before .loop .at) (omega (arith, c .before .before .before .before .before .before .loop-test .taken)))
+part-read-end c = omega (arith, c .before .before .before .before .look-from .ensures .end, end-le 10 (c .before .before .before .before .before .before .before .before .before .before .before .before .args .sheet .now) (c .before .before .before .before .before .before .before .loop .at) (omega (arith, c .before .before .before .before .before .before .loop-test .taken)))
 
 array-share-prefix-ends : tie.Need-array-share-prefix-ends Inv-loop μ-loop
 array-share-prefix-ends c = search needs
 
 slice-aggregate-read : tie.Need-slice-aggregate-read Inv-loop μ-loop
-slice-aggregate-read c = sym (length-take-le _ _ (omega (arith, c .before .before .before .before .lesser .ensures, c .before .before .before .before .before .before .line .kept .1 .1 .0, c .before .before .before .before .before .before .before .before .before .loop .inv .3)))
+slice-aggregate-read c = sym (length-take-le _ _ (omega (arith, c .before .before .before .before .lesser .ensures, c .before .before .before .before .before .before .look-from .kept .1 .1 .0, c .before .before .before .before .before .before .before .before .before .loop .inv .3)))
 
 read-requires : tie.Need-read-requires Inv-loop μ-loop
 read-requires c κs =
-    let is = ap (λ (k : ℕ). partOf (c .before .before .before .before .before .before .before .before .before .before .before .before .before .before .args .sheet .now) (c .before .before .before .before .before .before .before .before .before .loop .at) (k - c .before .before .before .before .before .before .before .before .before .loop .at)) (c .before .before .before .before .before .before .line .ensures .end) in
-    reads-comes (c .before .before .before .before .before .before .before .before .before .before .before .before .before .before .pre .0) (c .before .before .before .before .before .before .before .before .before .loop .inv .0) _ (omega (arith, c .before .before .before .before .before .before .before .before .loop-test .taken)) is (rw is (c .before .before .before .before .before .before .line .ensures .good)) (λ short. rw is (looked (c .before .before .before .before .before .before .line .ensures) (c .before .before .before .before .lesser .result) (omega (arith, c .before .before .before .before .lesser .ensures, c .before .before .before .before .before .before .before .before .before .loop .inv .3)) (omega (arith, short, ap length is, c .before .before .before .before .before .before .before .before .before .loop .inv .3))))
+    let is = ap (λ (k : ℕ). partOf (c .before .before .before .before .before .before .before .before .before .before .before .before .before .before .args .sheet .now) (c .before .before .before .before .before .before .before .before .before .loop .at) (k - c .before .before .before .before .before .before .before .before .before .loop .at)) (c .before .before .before .before .before .before .look-from .ensures .end) in
+    reads-comes (c .before .before .before .before .before .before .before .before .before .before .before .before .before .before .pre .0) (c .before .before .before .before .before .before .before .before .before .loop .inv .0) _ (omega (arith, c .before .before .before .before .before .before .before .before .loop-test .taken)) is (rw is (c .before .before .before .before .before .before .look-from .ensures .good)) (λ short. rw is (looked (c .before .before .before .before .before .before .look-from .ensures) (c .before .before .before .before .lesser .result) (omega (arith, c .before .before .before .before .lesser .ensures, c .before .before .before .before .before .before .before .before .before .loop .inv .3)) (omega (arith, short, ap length is, c .before .before .before .before .before .before .before .before .before .loop .inv .3))))
 
 same-length : tie.Need-same-length Inv-loop μ-loop
 same-length c = c .before .before .before .before .before .before .before .read .kept .1 .0 ∙ c .before .before .before .before .before .before .before .before .before .before .before .before .before .before .before .before .before .loop .inv .1
@@ -63,25 +63,25 @@ same-length-2 c = c .before .before .before .before .before .before .before .rea
 
 returns : tie.Need-returns Inv-loop μ-loop
 returns c =
-    let is = ap (λ (k : ℕ). partOf (c .before .before .before .before .before .before .before .before .before .before .before .before .before .before .before .before .before .before .before .before .before .before .args .sheet .now) (c .before .before .before .before .before .before .before .before .before .before .before .before .before .before .before .before .before .loop .at) (k - c .before .before .before .before .before .before .before .before .before .before .before .before .before .before .before .before .before .loop .at)) (c .before .before .before .before .before .before .before .before .before .before .before .before .before .before .line .ensures .end) in
-    reads-stop (c .before .before .before .before .before .before .before .before .before .before .before .before .before .before .before .before .before .before .before .before .before .before .pre .0) (c .before .before .before .before .before .before .before .before .before .before .before .before .before .before .before .before .before .loop .inv .0) _ _ _ (omega (arith, c .before .before .before .before .before .before .before .before .before .before .before .before .before .before .before .before .loop-test .taken)) (c .before .before .before .before .before .before .before .before .before .before .before .before .before .before .line .ensures .end) is {k′ = c .before .before .before .before .before .before .before .read .result .kept} (c .before .before .before .before .before .before .before .read .ensures) (c .if1 .taken)
+    let is = ap (λ (k : ℕ). partOf (c .before .before .before .before .before .before .before .before .before .before .before .before .before .before .before .before .before .before .before .before .before .before .args .sheet .now) (c .before .before .before .before .before .before .before .before .before .before .before .before .before .before .before .before .before .loop .at) (k - c .before .before .before .before .before .before .before .before .before .before .before .before .before .before .before .before .before .loop .at)) (c .before .before .before .before .before .before .before .before .before .before .before .before .before .before .look-from .ensures .end) in
+    reads-stop (c .before .before .before .before .before .before .before .before .before .before .before .before .before .before .before .before .before .before .before .before .before .before .pre .0) (c .before .before .before .before .before .before .before .before .before .before .before .before .before .before .before .before .before .loop .inv .0) _ _ _ (omega (arith, c .before .before .before .before .before .before .before .before .before .before .before .before .before .before .before .before .loop-test .taken)) (c .before .before .before .before .before .before .before .before .before .before .before .before .before .before .look-from .ensures .end) is {k′ = c .before .before .before .before .before .before .before .read .result .kept} (c .before .before .before .before .before .before .before .read .ensures) (c .if1 .taken)
 
 add-line : tie.Need-add-line Inv-loop μ-loop
 add-line c = omega (arith, c .before .before .before .before .before .before .before .before .before .before .before .before .before .before .before .before .before .loop .inv .0 .near, c .before .before .before .before .before .before .before .before .before .before .before .before .before .before .before .before .before .loop .inv .0 .inside, c .before .before .before .before .before .before .before .before .before .before .before .before .before .before .before .before .before .before .before .before .before .before .pre .0)
 
 add-at : tie.Need-add-at Inv-loop μ-loop
-add-at c = omega (arith, c .before .before .before .before .before .before .before .before .before .before .before .before .before .before .line .ensures .end, end-le 10 (c .before .before .before .before .before .before .before .before .before .before .before .before .before .before .before .before .before .before .before .before .before .before .args .sheet .now) (c .before .before .before .before .before .before .before .before .before .before .before .before .before .before .before .before .before .loop .at) (omega (arith, c .before .before .before .before .before .before .before .before .before .before .before .before .before .before .before .before .loop-test .taken)), c .before .before .before .before .before .before .before .before .before .before .before .before .before .before .before .before .before .before .before .before .before .before .pre .0)
+add-at c = omega (arith, c .before .before .before .before .before .before .before .before .before .before .before .before .before .before .look-from .ensures .end, end-le 10 (c .before .before .before .before .before .before .before .before .before .before .before .before .before .before .before .before .before .before .before .before .before .before .args .sheet .now) (c .before .before .before .before .before .before .before .before .before .before .before .before .before .before .before .before .before .loop .at) (omega (arith, c .before .before .before .before .before .before .before .before .before .before .before .before .before .before .before .before .loop-test .taken)), c .before .before .before .before .before .before .before .before .before .before .before .before .before .before .before .before .before .before .before .before .before .before .pre .0)
 
 start-from-requires : tie.Need-start-from-requires Inv-loop μ-loop
 start-from-requires c κs = search needs
 
 loop-less : tie.Need-loop-less Inv-loop μ-loop
-loop-less c = omega (arith, c .before .before .before .before .before .before .before .before .before .before .before .before .before .before .before .before .line .ensures .end, end-ge 10 (c .before .before .before .before .before .before .before .before .before .before .before .before .before .before .before .before .before .before .before .before .before .before .before .before .args .sheet .now) (c .before .before .before .before .before .before .before .before .before .before .before .before .before .before .before .before .before .before .before .loop .at), c .before .before .before .before .before .before .before .before .before .before .before .before .before .before .before .before .before .before .loop-test .taken)
+loop-less c = omega (arith, c .before .before .before .before .before .before .before .before .before .before .before .before .before .before .before .before .look-from .ensures .end, end-ge 10 (c .before .before .before .before .before .before .before .before .before .before .before .before .before .before .before .before .before .before .before .before .before .before .before .before .args .sheet .now) (c .before .before .before .before .before .before .before .before .before .before .before .before .before .before .before .before .before .before .before .loop .at), c .before .before .before .before .before .before .before .before .before .before .before .before .before .before .before .before .before .before .loop-test .taken)
 
 loop-again : tie.Need-loop-again Inv-loop μ-loop
 loop-again c =
-    let is = ap (λ (k : ℕ). partOf (c .before .before .before .before .before .before .before .before .before .before .before .before .before .before .before .before .before .before .before .before .before .before .before .before .args .sheet .now) (c .before .before .before .before .before .before .before .before .before .before .before .before .before .before .before .before .before .before .before .loop .at) (k - c .before .before .before .before .before .before .before .before .before .before .before .before .before .before .before .before .before .before .before .loop .at)) (c .before .before .before .before .before .before .before .before .before .before .before .before .before .before .before .before .line .ensures .end) in
-    (reads-on (c .before .before .before .before .before .before .before .before .before .before .before .before .before .before .before .before .before .before .before .before .before .before .before .before .pre .0) (c .before .before .before .before .before .before .before .before .before .before .before .before .before .before .before .before .before .before .before .loop .inv .0) _ _ _ (omega (arith, c .before .before .before .before .before .before .before .before .before .before .before .before .before .before .before .before .before .before .loop-test .taken)) (c .before .before .before .before .before .before .before .before .before .before .before .before .before .before .before .before .line .ensures .end) is {k′ = c .before .before .before .before .before .before .before .before .before .read .result .kept} (c .before .before .before .before .before .before .before .before .before .read .ensures) (c .before .before .if1 .left) (c .start-from .ensures), c .before .before .before .before .before .before .before .before .before .read .kept .1 .0 ∙ c .before .before .before .before .before .before .before .before .before .before .before .before .before .before .before .before .before .before .before .loop .inv .1, c .before .before .before .before .before .before .before .before .before .read .kept .1 .1 .0 ∙ c .before .before .before .before .before .before .before .before .before .before .before .before .before .before .before .before .before .before .before .loop .inv .2, c .before .before .before .before .before .before .before .before .before .before .before .before .before .before .before .before .line .kept .1 .1 .0 ∙ c .before .before .before .before .before .before .before .before .before .before .before .before .before .before .before .before .before .before .before .loop .inv .3)
+    let is = ap (λ (k : ℕ). partOf (c .before .before .before .before .before .before .before .before .before .before .before .before .before .before .before .before .before .before .before .before .before .before .before .before .args .sheet .now) (c .before .before .before .before .before .before .before .before .before .before .before .before .before .before .before .before .before .before .before .loop .at) (k - c .before .before .before .before .before .before .before .before .before .before .before .before .before .before .before .before .before .before .before .loop .at)) (c .before .before .before .before .before .before .before .before .before .before .before .before .before .before .before .before .look-from .ensures .end) in
+    (reads-on (c .before .before .before .before .before .before .before .before .before .before .before .before .before .before .before .before .before .before .before .before .before .before .before .before .pre .0) (c .before .before .before .before .before .before .before .before .before .before .before .before .before .before .before .before .before .before .before .loop .inv .0) _ _ _ (omega (arith, c .before .before .before .before .before .before .before .before .before .before .before .before .before .before .before .before .before .before .loop-test .taken)) (c .before .before .before .before .before .before .before .before .before .before .before .before .before .before .before .before .look-from .ensures .end) is {k′ = c .before .before .before .before .before .before .before .before .before .read .result .kept} (c .before .before .before .before .before .before .before .before .before .read .ensures) (c .before .before .if1 .left) (c .start-from .ensures), c .before .before .before .before .before .before .before .before .before .read .kept .1 .0 ∙ c .before .before .before .before .before .before .before .before .before .before .before .before .before .before .before .before .before .before .before .loop .inv .1, c .before .before .before .before .before .before .before .before .before .read .kept .1 .1 .0 ∙ c .before .before .before .before .before .before .before .before .before .before .before .before .before .before .before .before .before .before .before .loop .inv .2, c .before .before .before .before .before .before .before .before .before .before .before .before .before .before .before .before .look-from .kept .1 .1 .0 ∙ c .before .before .before .before .before .before .before .before .before .before .before .before .before .before .before .before .before .before .before .loop .inv .3)
 
 same-length-3 : tie.Need-same-length-3 Inv-loop μ-loop
 same-length-3 c = c .before .loop .inv .1
@@ -100,8 +100,8 @@ read-lines-spec =
     μ-loop
     blank-requires
     loop-holds
-    slice-aggregate-line
-    line-requires
+    slice-aggregate-look-from
+    look-from-requires
     lesser-requires
     sub-read
     part-read-start
