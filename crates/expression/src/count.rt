@@ -17,7 +17,7 @@ use store::Item;
 use store::Layout;
 use store::Role;
 
-// Of each article of the row p the least item.
+// Of each article of the row p one item.
 fn leaders(words: &[u64], at: Layout, counts: Counts, p: Row) -> Row
     requires { ⌜ Laid at (now words) × ClosedStore (at .width) counts (now words) × ((x : ℕ) → RowHas p x → DeclaredItem counts x) ⌝ }
     ensures { λ r. ⌜ Leaders (Holds (at .width) counts (now (words .entry))) counts (RowHas p) (counts .items) (RowHas r) ⌝ }
@@ -96,7 +96,7 @@ fn turned(u: RoleUse) -> RoleUse
     }
 }
 
-// The items that the role, or its inverse, links to items of the row p of at least k different articles. Several articles of an inverse: by tallies. One: by the step of the turned role from p.
+// The items that the role, or its inverse, links to items of the row p of at least k different articles. None: all items. One: by the step of the turned role from p. Several: of an inverse by tallies, where these count so many; otherwise by one item of each article.
 pub fn many(words: &[u64], at: Layout, counts: Counts, k: usize, u: RoleUse, p: &Row) -> Row
     requires { ⌜ Laid at (now words) × ClosedStore (at .width) counts (now words) ⌝ }
     ensures { λ r. ⌜ Marks (counts .items) r (λ x. Articles (Holds (at .width) counts (now (words .entry))) counts k (Found (Holds (at .width) counts (now (words .entry))) u (RowHas (now (p .entry))) x)) ⌝ }

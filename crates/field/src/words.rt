@@ -149,7 +149,7 @@ pub fn form(line: &[u8], ends: &[u16]) -> Form
     line_form(w)
 }
 
-// How many words a line begins with.
+// How many fields stand before those that are due, also where the rule word is missing; of an unknown word it says nothing.
 pub fn words(f: Form) -> usize
     ensures { λ r. ⌜ r ≡ wordsOf f ⌝ }
 {

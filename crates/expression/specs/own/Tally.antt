@@ -18,7 +18,7 @@ use Rattle.rule.specs.Meaning.{Articles}
 abbrev pub tallyRoom : ℕ
 tallyRoom = room * (countLimit + 1)
 
--- tallies count k articles of the role use: it is the inverse of a declared role
+-- tallies count k articles of the role use: it is the inverse of a declared role, and k is from 2 to the largest count
 pub record Countable (n : Counts) (k : ℕ) (u : RoleUse) : Type 0 where
   pub inverse : u .inverse ≡ true
   pub role : DeclaredRole n (u .role .0)

@@ -1,4 +1,4 @@
--- The reader's own records of a line: where its fields end, and how many words it begins with.
+-- The reader's own records of a line: where its fields end, and how many stand before those that are due.
 use mathlib.Core.Path.{_≡_}
 use mathlib.Core.List.{List}
 use Prim.Native.Nat.{ℕ}
@@ -13,7 +13,7 @@ pub record Looked (line ends : List ℕ) : Type 0 where
   pub ended : Ended line ends
   pub count : length ends ≡ length (fields line)
 
--- how many words a line begins with
+-- how many fields stand before those that are due, also where the rule word is missing; of an unknown word it says nothing
 abbrev pub wordsOf : Form → ℕ
 wordsOf form.Concept = 1
 wordsOf form.Role = 1

@@ -64,7 +64,7 @@ hintCount = 1024
 abbrev pub numberCount : ℕ
 numberCount = hintsFrom + hintCount
 
--- a number made of a name's first four bytes and its last four, or of its tag
+-- a number made of a name's first four bytes and its last four, or, where it has fewer than four, of its tag
 unfoldable pub keyOf : List ℕ → ℕ
 keyOf w = cond (leb 4 (length w)) ((low (partOf w 0 4) * 113173225 + low (partOf w (length w - 4) 4) * 1008168907) / 67108864 % hintCount) (tagOf w % hintCount)
 
@@ -114,7 +114,7 @@ pub record Listed (good : Field → Bool) (names : List Field) : Type 0 where
 abbrev pub conceptName : Field → Bool
 conceptName f = isName f && not (reserved f)
 
--- the names declared so far
+-- the names declared so far: of each kind no name twice, and all of them good
 pub record Proper (n : Names) : Type 0 where
   pub concepts : Listed conceptName (n .concepts)
   pub roles : Listed isName (n .roles)

@@ -62,7 +62,7 @@ pub record Printed (x : Said) (t : List ℕ) (done : List SheetRule) (room : Lis
   pub left : b .left ≡ printLimit - length list
   pub total : b .total ≡ length list
 
--- all rules of the accepted sheet are judged, the text from the room's start on; the place and the total stay small
+-- all rules of the accepted sheet are judged, the text from the room's start on; the place stays small
 pub record JudgedAll (sheet : List ℕ) (t : Table) (s : List ℕ) (room exit : List ℕ) (r : Tally) : Type 0 where
   pub printed : (x : Said) → outcome sheet ≡ accepted x → x .names ≡ namesOf sheet t → Printed x s (x .rules) room 0 exit r
   pub near : r .at ≤ findingBound * printLimit

@@ -44,7 +44,7 @@ packs (x ∷ xs) = packOf x .kind ∷ packOf x .first ∷ packOf x .second ∷ p
 abbrev pub roleUse : ℕ → Bool → RoleUse
 roleUse role inverse = record { role = record { 0 = role }; inverse = inverse }
 
--- the node of a kind
+-- the node of a kind, with what it has; every kind past 7 is `One`
 unfoldable pub nodeOf : ℕ → ℕ → ℕ → ℕ → Node
 nodeOf kind a b c =
     cond (eqb kind 0) (node.Name (record { 0 = a }))

@@ -61,7 +61,7 @@ pub record Plain (x r : ℕ) : Type 0 where
   pub most : r ≤ 8
   pub plain : (j : ℕ) → j < r → (32 ≤ byteOf x j) × (byteOf x j ≤ 126)
 
--- how many may is told by the lowest bit of m
+-- m is 0 only if all eight bytes of x may stand in a field; otherwise all bytes below the one with its lowest bit may
 pub record Masks (x m : ℕ) : Type 0 where
   pub all : m ≡ 0 → Plain x 8
   pub some : (m ≡ 0 → ⊥) → Plain x (trailingZeros 64 m / 8)
