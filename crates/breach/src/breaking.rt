@@ -1,18 +1,21 @@
 ghost use mathlib.Core.Path.{_≡_};
 ghost use mathlib.Core.Bool.{true};
 ghost use Prim.Native.Nat.{_*_, _≤_, _<_};
+ghost use lib.ListN.{length};
 ghost use Rattle.logic.specs.own.Decides.{Decides};
 ghost use Rattle.row.specs.own.Row.{RowHas};
 ghost use Rattle.row.specs.own.Pick.{Marks, room};
 ghost use Rattle.store.specs.Layout.{ClosedStore, Holds};
 ghost use Rattle.store.specs.own.Laid.{Laid};
 ghost use Rattle.rule.specs.Breaks.{BreaksPair};
+ghost use Rattle.rule.specs.own.Packed.{packLimit, slotsOf};
 ghost use Rattle.breach.specs.own.Plan.{BreaksBy, PlaceBreaks, Planned, RootRow, isPair, isSub, leftRoot, rightRoot};
 ghost use Rattle.store.specs.Cell.{DeclaredItem};
 use crate::Plan;
 use crate::Root;
 use row::Row;
 use rule::Head;
+use rule::Packed;
 use rule::Rule;
 use store::Counts;
 use store::Item;
@@ -227,14 +230,14 @@ fn right_root(head: Head) -> Root
     }
 }
 
-// The items that a root holds of; an empty row where there is none.
-fn root_row(words: &[u64], at: Layout, counts: Counts, rule: Rule, root: Root) -> Row
-    requires { ⌜ Laid at (now words) × ClosedStore (at .width) counts (now words) ⌝ }
-    ensures { λ r. ⌜ RootRow (Holds (at .width) counts (now (words .entry))) counts (rule .nodes) root r ⌝ }
+// The items that a root holds of, by a rule's nodes as numbers; an empty row where there is none.
+fn root_row(words: &[u64], at: Layout, counts: Counts, nodes: &[usize], root: Root) -> Row
+    requires { ⌜ Laid at (now words) × ClosedStore (at .width) counts (now words) × (length (now nodes) ≡ packLimit) ⌝ }
+    ensures { λ r. ⌜ RootRow (Holds (at .width) counts (now (words .entry))) counts (slotsOf (now (nodes .entry))) root r ⌝ }
 {
     match root {
         Root::None => row::pick::empty(),
-        Root::At(a) => expression::holding::row_at(words, at, counts, rule, a, Rule::NODES),
+        Root::At(a) => expression::holding::row_at(words, at, counts, nodes, a, Rule::NODES),
     }
 }
 
@@ -244,7 +247,10 @@ pub fn plan(words: &[u64], at: Layout, counts: Counts, rule: Rule) -> Plan
     ensures { λ r. ⌜ Planned (Holds (at .width) counts (now (words .entry))) counts rule r ⌝ }
 {
     let head = rule.head;
-    let left = root_row(words, at, counts, rule, left_root(head));
-    let right = root_row(words, at, counts, rule, right_root(head));
+    let nodes = rule.nodes;
+    let mut numbers = [0; Packed::ROOM];
+    rule::packs::put_all(&mut numbers, nodes);
+    let left = root_row(words, at, counts, &numbers, left_root(head));
+    let right = root_row(words, at, counts, &numbers, right_root(head));
     Plan { head, left, right }
 }

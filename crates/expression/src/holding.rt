@@ -1,16 +1,18 @@
+ghost use mathlib.Core.Path.{_≡_};
 ghost use Prim.Native.Nat.{_*_, _≤_};
+ghost use lib.ListN.{length};
 ghost use Rattle.row.specs.own.Row.{RowHas};
 ghost use Rattle.row.specs.own.Pick.{Marks, room};
 ghost use Rattle.store.specs.Cell.Cell.{Same, In};
 ghost use Rattle.store.specs.Layout.{ClosedStore, Holds};
 ghost use Rattle.store.specs.own.Laid.{Laid};
 ghost use Rattle.rule.specs.Expr.{exprAt};
+ghost use Rattle.rule.specs.own.Packed.{packLimit, slotsOf};
 ghost use Rattle.rule.specs.Meaning.{HoldsOf, Linked};
 ghost use Rattle.expression.specs.own.Row.{NodeHolds};
 use row::Row;
 use rule::Node;
 use rule::RoleUse;
-use rule::Rule;
 use store::Concept;
 use store::Counts;
 use store::Item;
@@ -88,33 +90,32 @@ fn fill(words: &[u64], at: Layout, counts: Counts, node: Node, p: &Row, q: &Row)
     }
 }
 
-// The items that the expression at a node holds of, as a row of bits. It reads `left` nodes deep, by one call for each child.
+// The items that the expression at a node holds of, as a row of bits; the nodes are lent as numbers. It reads `left` nodes deep, by one call for each child.
 pub fn row_at(
     words: &[u64],
     at: Layout,
     counts: Counts,
-    rule: Rule,
+    nodes: &[usize],
     node: usize,
     left: usize,
 ) -> Row
-    requires { ⌜ Laid at (now words) × ClosedStore (at .width) counts (now words) ⌝ }
-    ensures { λ r. ⌜ Marks (counts .items) r (HoldsOf (Holds (at .width) counts (now (words .entry))) counts (exprAt left (rule .nodes) node)) ⌝ }
+    requires { ⌜ Laid at (now words) × ClosedStore (at .width) counts (now words) × (length (now nodes) ≡ packLimit) ⌝ }
+    ensures { λ r. ⌜ Marks (counts .items) r (HoldsOf (Holds (at .width) counts (now (words .entry))) counts (exprAt left (slotsOf (now (nodes .entry))) node)) ⌝ }
 {
     let none = row::pick::empty();
     if left == 0 {
         return fill(words, at, counts, Node::Top, &none, &none);
     }
-    let nodes = rule.nodes;
-    let here = rule::nodes::node_at(nodes, node);
+    let here = rule::packs::node_at(nodes, node);
     if !crate::children::has_first(here) {
         return fill(words, at, counts, here, &none, &none);
     }
     let first = crate::children::first_child(here);
-    let p = row_at(words, at, counts, rule, first, left - 1);
+    let p = row_at(words, at, counts, nodes, first, left - 1);
     if !crate::children::has_second(here) {
         return fill(words, at, counts, here, &p, &none);
     }
     let second = crate::children::second_child(here);
-    let q = row_at(words, at, counts, rule, second, left - 1);
+    let q = row_at(words, at, counts, nodes, second, left - 1);
     fill(words, at, counts, here, &p, &q)
 }

@@ -1,7 +1,8 @@
--- Rules by number. Definitions here, in the order of document 01; what is proved of them in laws.
+-- Rules by number. Definitions here, in the order of document 01; the code's own records in own, what is proved in laws.
 pub mod Form
 pub mod Expr
 pub mod Meaning
 pub mod Breaks
 pub mod Findings
+pub mod own
 pub mod laws

@@ -6,3 +6,4 @@ pub mod Told
 pub mod Short
 pub mod Findings
 pub mod Few
+pub mod Packed

@@ -7,12 +7,12 @@ ghost use Rattle.rule.specs.Form.{nodeLimit};
 ghost use Rattle.field.specs.Names.{nodesOf};
 ghost use Rattle.field.specs.own.Line.{Looked};
 ghost use Rattle.field.specs.own.Table.{Tidy, namesOf, tableOf};
-ghost use Rattle.saying.specs.own.Packed.{packLimit};
+ghost use Rattle.rule.specs.own.Packed.{packLimit};
 ghost use Rattle.saying.specs.own.Nodes.{Joined, PutAll, ReadsOne, Ready, childrenOf, fillAnd, headFields, headNodes};
-use crate::Packed;
 use crate::Parsed;
 use field::Operator;
 use rule::Node;
+use rule::Packed;
 use store::Counts;
 
 // One node more; gives how many there are.
@@ -20,12 +20,7 @@ fn put(nodes: &mut [usize], len: usize, node: Node) -> usize
     requires { ⌜ (length (now nodes) ≡ packLimit) × (len < nodeLimit) ⌝ }
     ensures { λ r. ⌜ PutAll (now (nodes .entry)) len (node ∷ []) (now (nodes .exit)) r ⌝ }
 {
-    let p = crate::packs::pack(node);
-    let i = Packed::NUMBERS * len;
-    nodes[i] = p.kind;
-    nodes[i + 1] = p.first;
-    nodes[i + 2] = p.second;
-    nodes[i + 3] = p.third;
+    rule::packs::put(nodes, len, node);
     len + 1
 }
 

@@ -6,10 +6,10 @@ ghost use Rattle.field.specs.own.Line.{Looked};
 ghost use Rattle.field.specs.own.Table.{Tidy, namesOf, tableOf};
 ghost use Rattle.saying.specs.own.Nodes.{RuleReady};
 ghost use Rattle.saying.specs.Read.{bare as bareRule, chainOf, ruleOf};
-use crate::Packed;
 use crate::Parsed;
 use field::RuleWord;
 use rule::Head;
+use rule::Packed;
 use rule::Rule;
 use store::Counts;
 
@@ -20,7 +20,7 @@ pub fn bare(head: Head) -> Rule
     Rule {
         head,
         len: 0,
-        nodes: crate::packs::blank(),
+        nodes: crate::places::blank(),
     }
 }
 
@@ -170,7 +170,7 @@ fn sub(sheet: &[u8], names: &[u32], counts: Counts, line: &[u8], ends: &[u16], f
     Rule {
         head: Head::Sub(0, first.len),
         len: both.len,
-        nodes: crate::packs::unpack(&numbers, both.len),
+        nodes: crate::places::unpack(&numbers, both.len),
     }
 }
 
@@ -203,7 +203,7 @@ fn in_rule(
     Rule {
         head: Head::In(0, item),
         len: first.len,
-        nodes: crate::packs::unpack(&numbers, first.len),
+        nodes: crate::places::unpack(&numbers, first.len),
     }
 }
 

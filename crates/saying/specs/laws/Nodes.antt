@@ -15,9 +15,8 @@ use Rattle.field.specs.declared.Operator.{Operator}
 use Rattle.field.specs.declared.Operator.the-variants as operator
 use Rattle.field.specs.Names.{Names, countOf}
 use Rattle.saying.specs.own.Nodes.{Joined, PutAll, childrenOf, fillAnd, headFields, headNodes}
-use Rattle.saying.specs.own.Packed.{packOf, packWidth, packs}
-use Rattle.saying.specs.declared.Packed.{Packed}
-use Rattle.saying.specs.laws.Packed.{packs-both}
+use Rattle.rule.specs.own.Packed.{packWidth, packs}
+use Rattle.rule.specs.laws.Packed.{packs-both}
 use Rattle.saying.specs.Read.{Read, byWord, nodesAt, size}
 use Rattle.field.specs.Words.{at, Field}
 
@@ -35,12 +34,6 @@ sets-set l i zero v (a ∷ vs) h = rw add-zero (set-sets (set l i a) i (suc i) v
 sets-set l i (suc j) v (a ∷ vs) h = let z : i + suc j ≡ suc i + j = omega arith in rw z (sets-set (set l i a) (suc i) j v vs (omega arith))
 
 -- ---- nodes in the room
-
--- one node, number by number
-pub put-one : (room : List ℕ) (len : ℕ) (x : Node) (p : Packed) → p ≡ packOf x
-    → PutAll room len (x ∷ []) (set (set (set (set room (packWidth * len) (p .kind)) (packWidth * len + 1) (p .first)) (packWidth * len + 2) (p .second)) (packWidth * len + 3) (p .third)) (len + 1)
-unfolding packs
-put-one room len x p e = record { here = rw e (simp towards-suc); count = omega arith }
 
 module _ {room : List ℕ} {len : ℕ} where
   pub put-none : {exit : List ℕ} → exit ≡ room → PutAll room len [] exit len

@@ -22,8 +22,8 @@ use Rattle.saying.specs.Read.{Read, chainOf, itemOf, laid, nodesAt, read
 use Rattle.field.specs.Words.{at, Field}
 use Rattle.saying.specs.laws.Fields.{field-from, first-from}
 use Rattle.saying.specs.laws.Nodes.{nodes-length}
-use Rattle.saying.specs.own.Packed.{packLimit, packs, unpacked}
-use Rattle.saying.specs.laws.Packed.{packs-both, unpacked-all}
+use Rattle.rule.specs.own.Packed.{packLimit, packs, unpacked}
+use Rattle.rule.specs.laws.Packed.{packs-both, unpacked-all}
 use Rattle.saying.specs.laws.Read.{Begun, Reader, read-right}
 
 -- a chain has a role

@@ -5,6 +5,7 @@ use borrow.Fn.Kinds.{In}
 use borrow.Fn.PlainCycle.{Measures, is, falls, and}
 use Rattle.row.specs.own.Row.{RowHas}
 use Rattle.store.specs.Layout.{Holds}
+use Rattle.rule.specs.own.Packed.{slotsOf}
 use Rattle.expression.specs.laws.Holding.{none-such, row-marks, row-top, second-first}
 use Rattle.row.proofs.pick.empty.Reads as empty-reads
 use Rattle.expression.proofs.holding.+row_at.Lts-row_at as row-at-lts
@@ -14,19 +15,19 @@ use Rattle.expression.proofs.holding.row_at.Reads as row-at
 use Rattle.expression.proofs.children.first_child.Reads as first-child-reads
 use Rattle.expression.proofs.children.has_first.Reads as has-first-reads
 use Rattle.expression.proofs.children.has_second.Reads as has-second-reads
-use Rattle.rule.proofs.nodes.node_at.Reads as node-at-reads
+use Rattle.rule.proofs.packs.node_at.Reads as node-at-reads
 use Rattle.expression.proofs.children.second_child.Reads as second-child-reads
 use Rattle.expression.proofs.holding.+row_at.{statement}
 use Rattle.expression.proofs.holding.+row_at.Tie.{close}
 
-abbrev μ-row-at : Measures 1 row-at-kinds.ps ℕ
+abbrev μ-row-at : Measures 2 row-at-kinds.ps ℕ
 μ-row-at κs a = a .1 .1 .1 .1 .1 .0
 
-abbrev row-at-at : ℕ → In 1 row-at-kinds.ps
-row-at-at t = and 1 row-at-kinds.ps (is 1 row-at-kinds.ps μ-row-at t) row-at.Pre
+abbrev row-at-at : ℕ → In 2 row-at-kinds.ps
+row-at-at t = and 2 row-at-kinds.ps (is 2 row-at-kinds.ps μ-row-at t) row-at.Pre
 
-abbrev row-at-below : ℕ → In 1 row-at-kinds.ps
-row-at-below t = and 1 row-at-kinds.ps (falls 1 row-at-kinds.ps _<_ μ-row-at t) row-at.Pre
+abbrev row-at-below : ℕ → In 2 row-at-kinds.ps
+row-at-below t = and 2 row-at-kinds.ps (falls 2 row-at-kinds.ps _<_ μ-row-at t) row-at.Pre
 
 -- what each callee asks and ensures
 abbrev told : ℕ → row-at-lts.Claims
@@ -41,8 +42,8 @@ row-at-fill-requires t c κs = search needs
 
 row-at-returns : (t : ℕ) → row-at-lts.Need-returns (told t) (row-at-at t) row-at.Post
 row-at-returns t c =
-    let start = c .before .before .before .before .before .before in
-    row-top (Holds (start .args .at .width) (start .args .counts) (start .args .words .now)) (start .args .counts) (start .args .rule .nodes) (start .args .node) (start .args .left) (RowHas (c .before .before .before .before .empty .result)) (RowHas (c .before .before .before .before .empty .result)) (c .before .before .before .if1 .taken) (c .fill .ensures)
+    let start = c .before .before .before .before .before .before .before in
+    row-top (Holds (start .args .at .width) (start .args .counts) (start .args .words .now)) (start .args .counts) (slotsOf (start .args .nodes .now)) (start .args .node) (start .args .left) (RowHas (c .before .before .before .before .empty .result)) (RowHas (c .before .before .before .before .empty .result)) (c .before .before .before .if1 .taken) (c .fill .ensures)
 
 row-at-node-at-requires : (t : ℕ) → row-at-lts.Need-node-at-requires (told t) (row-at-at t) row-at.Post
 row-at-node-at-requires t c κs = search needs
@@ -56,7 +57,7 @@ row-at-fill-requires-2 t c κs = search needs
 row-at-returns-2 : (t : ℕ) → row-at-lts.Need-returns-2 (told t) (row-at-at t) row-at.Post
 row-at-returns-2 t c =
     let start = c .before .before .before .before .before .before .before .before .before .before in
-    row-marks (Holds (start .args .at .width) (start .args .counts) (start .args .words .now)) (start .args .counts) (start .args .rule .nodes) (start .args .node) (start .args .left) (c .before .before .before .before .before .before .before .before .empty .result) (c .before .before .before .before .before .before .before .before .empty .result) (c .before .before .before .before .before .before .before .if1 .left) (c .before .before .before .before .before .node-at .ensures)
+    row-marks (Holds (start .args .at .width) (start .args .counts) (start .args .words .now)) (start .args .counts) (slotsOf (start .args .nodes .now)) (start .args .node) (start .args .left) (c .before .before .before .before .before .before .before .empty .result) (c .before .before .before .before .before .before .before .empty .result) (c .before .before .before .before .before .before .if1 .left) (c .before .before .before .before .before .node-at .ensures)
     (none-such (c .before .before .before .before .has-first .ensures) (c .before .before .before .if2 .taken)) (λ h. none-such (c .before .before .before .before .has-first .ensures) (c .before .before .before .if2 .taken) (second-first (c .before .before .before .before .before .node-at .result) h)) (c .fill2 .ensures)
 
 row-at-first-child-requires : (t : ℕ) → row-at-lts.Need-first-child-requires (told t) (row-at-at t) row-at.Post
@@ -77,7 +78,7 @@ row-at-fill-requires-3 t c κs = search needs
 row-at-returns-3 : (t : ℕ) → row-at-lts.Need-returns-3 (told t) (row-at-at t) row-at.Post
 row-at-returns-3 t c =
     let start = c .before .before .before .before .before .before .before .before .before .before .before .before .before .before in
-    row-marks (Holds (start .args .at .width) (start .args .counts) (start .args .words .now)) (start .args .counts) (start .args .rule .nodes) (start .args .node) (start .args .left) (c .before .before .before .before .before .row-at .result) (c .before .before .before .before .before .before .before .before .before .before .before .before .empty .result) (c .before .before .before .before .before .before .before .before .before .before .before .if1 .left) (c .before .before .before .before .before .before .before .before .before .node-at .ensures)
+    row-marks (Holds (start .args .at .width) (start .args .counts) (start .args .words .now)) (start .args .counts) (slotsOf (start .args .nodes .now)) (start .args .node) (start .args .left) (c .before .before .before .before .before .row-at .result) (c .before .before .before .before .before .before .before .before .before .before .before .empty .result) (c .before .before .before .before .before .before .before .before .before .before .if1 .left) (c .before .before .before .before .before .before .before .before .before .node-at .ensures)
     (λ h. (c .before .before .before .before .before .before .first-child .result, c .before .before .before .before .before .before .first-child .ensures, c .before .before .before .before .before .row-at .ensures)) (none-such (c .before .before .before .before .has-second .ensures) (c .before .before .before .if3 .taken)) (c .fill3 .ensures)
 
 row-at-second-child-requires : (t : ℕ) → row-at-lts.Need-second-child-requires (told t) (row-at-at t) row-at.Post
@@ -95,7 +96,7 @@ row-at-fill-requires-4 t c κs = search needs
 row-at-returns-4 : (t : ℕ) → row-at-lts.Need-returns-4 (told t) (row-at-at t) row-at.Post
 row-at-returns-4 t c =
     let start = c .before .before .before .before .before .before .before .before .before .before .before .before .before .before .before .before in
-    row-marks (Holds (start .args .at .width) (start .args .counts) (start .args .words .now)) (start .args .counts) (start .args .rule .nodes) (start .args .node) (start .args .left) (c .before .before .before .before .before .before .before .row-at .result) (c .before .before .before .row-at2 .result) (c .before .before .before .before .before .before .before .before .before .before .before .before .before .if1 .left) (c .before .before .before .before .before .before .before .before .before .before .before .node-at .ensures)
+    row-marks (Holds (start .args .at .width) (start .args .counts) (start .args .words .now)) (start .args .counts) (slotsOf (start .args .nodes .now)) (start .args .node) (start .args .left) (c .before .before .before .before .before .before .before .row-at .result) (c .before .before .before .row-at2 .result) (c .before .before .before .before .before .before .before .before .before .before .before .before .if1 .left) (c .before .before .before .before .before .before .before .before .before .before .before .node-at .ensures)
     (λ h. (c .before .before .before .before .before .before .before .before .first-child .result, c .before .before .before .before .before .before .before .before .first-child .ensures, c .before .before .before .before .before .before .before .row-at .ensures)) (λ h. (c .before .before .before .before .second-child .result, c .before .before .before .before .second-child .ensures, c .before .before .before .row-at2 .ensures)) (c .fill4 .ensures)
 
 pub +row-at-spec : {M : Type 1} → statement M

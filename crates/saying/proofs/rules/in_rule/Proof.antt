@@ -5,7 +5,7 @@ use lib.ListN.{replicate}
 use Rattle.text.specs.Split.{fields}
 use Rattle.field.specs.own.Table.{namesOf, tableOf}
 use Rattle.saying.specs.Read.{itemOf}
-use Rattle.saying.specs.own.Packed.{packLimit}
+use Rattle.rule.specs.own.Packed.{packLimit}
 use Rattle.saying.specs.laws.Fields.{first-from, rest-count}
 use Rattle.saying.specs.laws.Parse.{reads-long}
 use Rattle.saying.specs.laws.Rules.{in-first, in-room, in-rule}

@@ -4,7 +4,7 @@ use borrow.Author.Needs.{needs}
 use lib.ListN.{replicate}
 use Rattle.text.specs.Split.{fields}
 use Rattle.field.specs.own.Table.{namesOf, tableOf}
-use Rattle.saying.specs.own.Packed.{packLimit}
+use Rattle.rule.specs.own.Packed.{packLimit}
 use Rattle.saying.specs.laws.Fields.{rest-count}
 use Rattle.saying.specs.laws.Parse.{reads-long}
 use Rattle.saying.specs.laws.Rules.{sub-first, sub-room, sub-rule, sub-second}

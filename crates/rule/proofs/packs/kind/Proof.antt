@@ -1,7 +1,7 @@
--- `saying::packs::kind` meets its contract. Assumes nothing.
+-- `rule::packs::kind` meets its contract. Assumes nothing.
 use borrow.Author.Needs.{needs}
-use Rattle.saying.proofs.packs.kind.Statement.{statement}
-use Rattle.saying.proofs.packs.kind.Tie as tie
+use Rattle.rule.proofs.packs.kind.Statement.{statement}
+use Rattle.rule.proofs.packs.kind.Tie as tie
 
 add-result : tie.Need-add-result
 add-result c = search needs

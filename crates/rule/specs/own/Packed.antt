@@ -1,14 +1,15 @@
 -- Nodes as numbers, four each: their kind and what they have.
 use mathlib.Core.Bool.{Bool, true, false, cond}
-use mathlib.Core.List.{List, [], _∷_, _++_}
+use mathlib.Core.List.{List, [], _∷_, _++_, map}
 use Prim.Native.Nat.{ℕ, zero, suc, _+_, _*_}
 use lib.Dec.{eqb}
 use lib.ListN.{getD}
 use Rattle.rule.specs.Form.{nodeLimit}
 use Rattle.rule.specs.declared.Node.{Node}
 use Rattle.rule.specs.declared.Node.the-variants as node
 use Rattle.rule.specs.declared.RoleUse.{RoleUse}
-use Rattle.saying.specs.declared.Packed.{Packed}
+use Rattle.rule.specs.declared.Slot.{Slot}
+use Rattle.rule.specs.declared.Packed.{Packed}
 
 -- how many numbers a node has, and how many those of a rule have
 abbrev pub packWidth : ℕ
@@ -65,3 +66,7 @@ nodeFrom ws i = nodeOf (getD ws i 0) (getD ws (i + 1) 0) (getD ws (i + 2) 0) (ge
 unfoldable pub unpacked : List ℕ → ℕ → List Node
 unpacked ws zero = []
 unpacked ws (suc k) = unpacked ws k ++ nodeFrom ws (packWidth * k) ∷ []
+
+-- the nodes of all places
+abbrev pub slotsOf : List ℕ → List Slot
+slotsOf ws = map (λ (x : Node). record { node = x }) (unpacked ws nodeLimit)

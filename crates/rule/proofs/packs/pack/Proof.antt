@@ -1,8 +1,8 @@
--- `saying::packs::pack` meets its contract. Assumes nothing.
+-- `rule::packs::pack` meets its contract. Assumes nothing.
 use mathlib.Core.Path.{_∙_}
 use borrow.Author.Needs.{needs}
-use Rattle.saying.proofs.packs.pack.Statement.{statement}
-use Rattle.saying.proofs.packs.pack.Tie as tie
+use Rattle.rule.proofs.packs.pack.Statement.{statement}
+use Rattle.rule.proofs.packs.pack.Tie as tie
 
 enum-known-node : tie.Need-enum-known-node
 enum-known-node c = search needs

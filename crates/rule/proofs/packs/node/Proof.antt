@@ -1,9 +1,9 @@
--- `saying::packs::node` meets its contract: each kind gives its case. Assumes nothing.
+-- `rule::packs::node` meets its contract: each kind gives its case. Assumes nothing.
 use borrow.Author.Tests.{ne-eqb}
-use Rattle.saying.specs.own.Packed.{nodeOf}
+use Rattle.rule.specs.own.Packed.{nodeOf}
 use borrow.Author.Needs.{needs}
-use Rattle.saying.proofs.packs.node.Statement.{statement}
-use Rattle.saying.proofs.packs.node.Tie as tie
+use Rattle.rule.proofs.packs.node.Statement.{statement}
+use Rattle.rule.proofs.packs.node.Tie as tie
 
 add-a : tie.Need-add-a
 add-a c = search needs

@@ -1,15 +1,16 @@
--- `saying::packs::unpack` meets its contract: the first i nodes are in their places. Assumes nothing.
+-- `saying::places::unpack` meets its contract: the first i nodes are in their places. Assumes nothing.
 use mathlib.Core.Path.{_≡_, _∙_, ap}
 use Prim.Native.Nat.{ℕ, _-_, _≤_}
 use lib.ListN.{length, length-set}
 use Rattle.rule.specs.Form.{nodeLimit}
 use Rattle.saying.specs.Read.{laid}
-use Rattle.saying.specs.own.Packed.{unpacked}
+use Rattle.rule.specs.own.Packed.{unpacked}
 use Rattle.saying.specs.laws.Packed.{laid-more}
+use Rattle.rule.specs.laws.Packed.{node-from}
 use native.Mathlib.Omega.{arith}
 use borrow.Author.Needs.{needs}
-use Rattle.saying.proofs.packs.unpack.Statement.{statement}
-use Rattle.saying.proofs.packs.unpack.Tie as tie
+use Rattle.saying.proofs.places.unpack.Statement.{statement}
+use Rattle.saying.proofs.places.unpack.Tie as tie
 
 abbrev Inv-loop : tie.InvT-loop
 Inv-loop numbers len nodes₀ i₀ nodes i = (i ≤ len) × (length nodes ≡ nodeLimit) × (nodes ≡ laid (unpacked numbers i))
@@ -24,11 +25,8 @@ loop-holds : tie.Need-loop-holds Inv-loop μ-loop
 unfolding unpacked
 loop-holds c = (omega arith, ap length (c .blank .ensures), c .blank .ensures)
 
-mul-node : tie.Need-mul-node Inv-loop μ-loop
-mul-node c = search needs
-
-node-requires : tie.Need-node-requires Inv-loop μ-loop
-node-requires c κs = omega (arith, c .loop-test .taken, c .before .before .before .before .pre .0, c .before .before .before .before .pre .1)
+node-at-requires : tie.Need-node-at-requires Inv-loop μ-loop
+node-at-requires c κs = omega (arith, c .loop-test .taken, c .before .before .before .before .pre .0, c .before .before .before .before .pre .1)
 
 mul-nodes : tie.Need-mul-nodes Inv-loop μ-loop
 mul-nodes c = search needs
@@ -45,7 +43,7 @@ loop-less c = search needs
 loop-again : tie.Need-loop-again Inv-loop μ-loop
 loop-again c =
     let v = c .before .before .loop in
-    (omega arith, length-set (v .nodes) (v .i) _ ∙ v .inv .1, laid-more _ (v .i) (v .nodes) _ (v .inv .2) (c .node .ensures))
+    (omega arith, length-set (v .nodes) (v .i) _ ∙ v .inv .1, laid-more _ (v .i) (v .nodes) _ (v .inv .2) (c .node-at .ensures ∙ node-from _ (v .i) (omega (arith, c .before .loop-test .taken, c .before .before .before .before .before .pre .1))))
 
 returns : tie.Need-returns Inv-loop μ-loop
 returns c = let v = c .before .loop in let e : v .i ≡ c .before .before .before .before .args .len = omega (arith, v .inv .0) in v .inv .2 ∙ ap (λ (k : ℕ). laid (unpacked (c .before .before .before .before .args .numbers .now) k)) e
@@ -58,8 +56,7 @@ unpack-spec =
     μ-loop
     blank-requires
     loop-holds
-    mul-node
-    node-requires
+    node-at-requires
     mul-nodes
     array-set-from-nodes
     add-i

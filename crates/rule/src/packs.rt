@@ -1,14 +1,16 @@
+// Nodes as numbers, which can be lent where a rule would go by value.
 ghost use mathlib.Core.Path.{_≡_};
-ghost use Prim.Native.Nat.{_+_, _≤_};
+ghost use mathlib.Core.List.{[], _∷_};
+ghost use Prim.Native.Nat.{_+_, _*_, _≤_, _<_};
 ghost use lib.ListN.{length};
-ghost use Rattle.rule.specs.Form.{nodeLimit};
-ghost use Rattle.saying.specs.Read.{blank as blankSlots, laid};
-ghost use Rattle.saying.specs.own.Packed.{kindOf, nodeFrom, packLimit, packOf, packedAs, roleUse, unpacked};
+ghost use lib.Seq.{sets};
+ghost use Rattle.rule.specs.Form.{nodeAt, nodeLimit};
+ghost use Rattle.rule.specs.own.Packed.{kindOf, nodeFrom, packLimit, packOf, packWidth, packedAs, packs, roleUse, slotsOf};
+use crate::Node;
 use crate::Packed;
-use rule::Node;
-use rule::RoleUse;
-use rule::Rule;
-use rule::Slot;
+use crate::RoleUse;
+use crate::Rule;
+use crate::Slot;
 use store::Concept;
 use store::Item;
 use store::Role;
@@ -37,7 +39,7 @@ fn numbers(kind: usize, first: usize, second: usize) -> Packed
 }
 
 // A node as numbers.
-pub fn pack(node: Node) -> Packed
+fn pack(node: Node) -> Packed
     ensures { λ r. ⌜ r ≡ packOf node ⌝ }
 {
     match node {
@@ -94,25 +96,40 @@ fn node(numbers: &[usize], i: usize) -> Node
     }
 }
 
-// Places without nodes.
-pub fn blank() -> [Slot; Rule::NODES]
-    ensures { λ r. ⌜ r ≡ blankSlots ⌝ }
+// The node at a place, by numbers of all places; past the last place the name of concept 0.
+pub fn node_at(numbers: &[usize], i: usize) -> Node
+    requires { ⌜ length (now numbers) ≡ packLimit ⌝ }
+    ensures { λ r. ⌜ r ≡ nodeAt (slotsOf (now (numbers .entry))) i ⌝ }
 {
-    [Slot { node: Node::Top }; Rule::NODES]
+    if i < Rule::NODES {
+        return node(numbers, Packed::NUMBERS * i);
+    }
+    Node::Name(Concept(0))
 }
 
-// The first nodes that the numbers stand for, as many as len, each in its place.
-pub fn unpack(numbers: &[usize], len: usize) -> [Slot; Rule::NODES]
-    requires { ⌜ (length (now numbers) ≡ packLimit) × (len ≤ nodeLimit) ⌝ }
-    ensures { λ r. ⌜ r ≡ laid (unpacked (now (numbers .entry)) len) ⌝ }
+// A node goes into its place among the numbers.
+pub fn put(numbers: &mut [usize], i: usize, node: Node)
+    requires { ⌜ (length (now numbers) ≡ packLimit) × (i < nodeLimit) ⌝ }
+    ensures { λ _. ⌜ now (numbers .exit) ≡ sets (now (numbers .entry)) (packWidth * i) (packs (node ∷ [])) ⌝ }
 {
-    let mut nodes = blank();
+    let p = pack(node);
+    let k = Packed::NUMBERS * i;
+    numbers[k] = p.kind;
+    numbers[k + 1] = p.first;
+    numbers[k + 2] = p.second;
+    numbers[k + 3] = p.third;
+}
+
+// The nodes of all places go into the numbers.
+pub fn put_all(numbers: &mut [usize], nodes: [Slot; Rule::NODES])
+    requires { ⌜ length (now numbers) ≡ packLimit ⌝ }
+    ensures { λ _. ⌜ (length (now (numbers .exit)) ≡ packLimit) × (slotsOf (now (numbers .exit)) ≡ nodes) ⌝ }
+{
     let mut i = 0;
-    while i < len {
-        nodes[i] = Slot {
-            node: node(numbers, Packed::NUMBERS * i),
-        };
+    while i < Rule::NODES {
+        let slot = nodes[i];
+        let node = slot.node;
+        put(numbers, i, node);
         i += 1;
     }
-    nodes
 }
