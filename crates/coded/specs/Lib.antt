@@ -1,5 +1,4 @@
--- Rules, findings and queries as plain words. Definitions here, what the code's parts do in own, what is proved in laws.
-pub mod Rules
+-- Findings and queries as plain words. Definitions here, what the code's parts do in own, what is proved in laws.
 pub mod Promise
 pub mod own
 pub mod laws

@@ -15,7 +15,7 @@ use Rattle.judge.specs.Promise.{Judged, RuleFault}
 use Rattle.query.specs.declared.Outcome.{Outcome}
 use Rattle.query.specs.declared.Outcome.the-variants.{Compiled, Refused}
 use Rattle.query.specs.Promise.{number, Compiles}
-use Rattle.coded.specs.Rules.{ruleOf}
+use Rattle.spelled.specs.Rules.{ruleOf}
 
 -- the word of a second item; of none it is the largest word there is
 abbrev pub secondWord : Second → ℕ

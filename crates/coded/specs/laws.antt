@@ -1,4 +1,3 @@
--- What is proved of rules, findings and queries as words.
-pub mod Rules
+-- What is proved of findings and queries as words.
 pub mod Findings
 pub mod Queries

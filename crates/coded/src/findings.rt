@@ -60,7 +60,7 @@ fn write(out: &mut [u64], n: usize, words: &[u64], first: Search)
 pub fn findings(words: &[u64], counts: Counts, given: &[u64], out: &mut [u64]) -> i64
     ensures { λ r. ⌜ ListCode counts (now (words .entry)) (now (given .entry)) (now (out .entry)) (now (out .exit)) r ⌝ }
 {
-    let u = crate::rules::rule_of(given);
+    let u = spelled::rules::rule_of(given);
     let p = judge::seek::prepare(words, counts, 0, u, out.len() / 2);
     let n = p.write;
     let c = p.search;

@@ -28,6 +28,6 @@ fn code(r: Outcome) -> i64
 pub fn compile(counts: Counts, given: &[u64], room: &mut [u16]) -> i64
     ensures { λ r. ⌜ CompileCode counts (now (given .entry)) (now (room .entry)) (now (room .exit)) r ⌝ }
 {
-    let u = crate::rules::rule_of(given);
+    let u = spelled::rules::rule_of(given);
     code(Query::compile(counts, u, room))
 }

@@ -2,7 +2,6 @@
 // short, a few rules by number, and a sheet. A rule is a byte a number: how many items more are declared than the sheet does, then its words.
 ghost use mathlib.Core.Path.{_≡_};
 ghost use lib.ListN.{length};
-use coded::Coded;
 use judge::RuleRefusal;
 use judge::Total;
 use libc::STDIN_FILENO;
@@ -11,6 +10,7 @@ use rule::Finding;
 use rule::Rule;
 use rule::Second;
 use sheet::Reading;
+use spelled::Spelled;
 use store::Counts;
 use store::Item;
 use store::Store;
@@ -22,7 +22,7 @@ const ROOM: usize = 24;
 const RULES: usize = 3;
 
 // The bytes of a rule: how many items more are declared, then its words.
-const RULE_BYTES: usize = 1 + Coded::RULE;
+const RULE_BYTES: usize = 1 + Spelled::RULE;
 
 // The bytes before the sheet.
 const HEAD: usize = 1 + RULES * RULE_BYTES;
@@ -169,12 +169,12 @@ fn byte_at(given: &[u8], i: usize) -> u8 {
 }
 
 // The words of a rule. The `ensures` gives only the length, which lending the array needs.
-fn words_of(given: &[u8]) -> [u64; Coded::RULE]
+fn words_of(given: &[u8]) -> [u64; Spelled::RULE]
     ensures { λ r. ⌜ 173 ≡ length r ⌝ }
 {
-    let mut words = [0u64; Coded::RULE];
+    let mut words = [0u64; Spelled::RULE];
     let mut i = 0;
-    while i < Coded::RULE {
+    while i < Spelled::RULE {
         words[i] = byte_at(given, 1 + i) as u64;
         i += 1;
     }
@@ -197,7 +197,7 @@ fn with_more(declared: Counts, n: u8) -> Counts {
 // Prints what is counted and listed of the rule with the number k, in the store that a sheet with these counts left.
 fn judge_rule(given: &[u8], k: usize, words: &[u64], declared: Counts) {
     let coded = words_of(given);
-    let rule = coded::rules::rule_of(&coded);
+    let rule = spelled::rules::rule_of(&coded);
     let counts = with_more(declared, byte_at(given, 0));
     print_total(b"count", judge::count(words, counts, rule));
     let found = find_list(words, counts, k, rule, marked());

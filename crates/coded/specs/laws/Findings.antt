@@ -22,7 +22,7 @@ use Rattle.judge.specs.laws.Search.{met-first, met-more}
 use Rattle.rule.specs.laws.Few.{few-findings}
 use Rattle.coded.specs.Promise.{ListCode, pairWords, secondWord}
 use Rattle.coded.specs.Promise.ListCode.{refused, listed}
-use Rattle.coded.specs.Rules.{ruleOf}
+use Rattle.spelled.specs.Rules.{ruleOf}
 use Rattle.coded.specs.own.Writing.{SmallTotal, Written, WroteTo, totalCode}
 
 -- two words a finding

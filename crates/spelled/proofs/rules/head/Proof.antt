@@ -1,12 +1,12 @@
--- `coded::rules::head` meets its contract: words of another length have the head of no kind. Assumes nothing.
+-- `spelled::rules::head` meets its contract: words of another length have the head of no kind. Assumes nothing.
 use mathlib.Core.Path.{_≡_}
 use native.Mathlib.Omega.{arith}
 use lib.ListN.{length}
 use borrow.Author.Tests.{eq-eqb, ne-eqb}
-use Rattle.coded.specs.Rules.{headOf, ruleWords}
+use Rattle.spelled.specs.Rules.{headOf, ruleWords}
 use borrow.Author.Needs.{needs}
-use Rattle.coded.proofs.rules.head.Statement.{statement}
-use Rattle.coded.proofs.rules.head.Tie as tie
+use Rattle.spelled.proofs.rules.head.Statement.{statement}
+use Rattle.spelled.proofs.rules.head.Tie as tie
 
 returns : tie.Need-returns
 unfolding headOf

@@ -1,10 +1,10 @@
--- `coded::rules::word_at` meets its contract. Assumes nothing.
+-- `spelled::rules::word_at` meets its contract. Assumes nothing.
 use mathlib.Core.Path.{sym}
 use native.Mathlib.Omega.{arith}
 use lib.ListN.{List·getD-eq-default}
 use borrow.Author.Needs.{needs}
-use Rattle.coded.proofs.rules.word_at.Statement.{statement}
-use Rattle.coded.proofs.rules.word_at.Tie as tie
+use Rattle.spelled.proofs.rules.word_at.Statement.{statement}
+use Rattle.spelled.proofs.rules.word_at.Tie as tie
 
 mul-result : tie.Need-mul-result
 mul-result c = search needs

@@ -3,8 +3,8 @@ ghost use Prim.Native.Nat.{_+_, _<_, _≤_};
 ghost use mathlib.Core.Path.{_≡_};
 ghost use lib.ListN.{length};
 ghost use Rattle.rule.specs.Form.{nodeLimit};
-ghost use Rattle.coded.specs.Rules.{chainOf, headOf, kindOf, nodeOf, nodeWords, nodesBelow, roleUseAt, ruleOf, ruleWords, word};
-use crate::Coded;
+ghost use Rattle.spelled.specs.Rules.{chainOf, headOf, kindOf, nodeOf, nodeWords, nodesBelow, roleUseAt, ruleOf, ruleWords, word};
+use crate::Spelled;
 use rule::Head;
 use rule::Node;
 use rule::RoleUse;
@@ -102,7 +102,7 @@ fn kind_head(given: &[u64]) -> Head
 fn head(given: &[u64]) -> Head
     ensures { λ r. ⌜ r ≡ headOf (now (given .entry)) ⌝ }
 {
-    if given.len() != Coded::RULE {
+    if given.len() != Spelled::RULE {
         return Head::Sub(Rule::NODES, Rule::NODES);
     }
     kind_head(given)
@@ -123,7 +123,7 @@ fn nodes(given: &[u64]) -> [Slot; Rule::NODES]
     let mut i = 0;
     while i < Rule::NODES {
         slots[i] = Slot {
-            node: node(given, Coded::FIRST + Coded::NODE * i),
+            node: node(given, Spelled::FIRST + Spelled::NODE * i),
         };
         i += 1;
     }
@@ -136,7 +136,7 @@ pub fn rule_of(given: &[u64]) -> Rule
 {
     Rule {
         head: head(given),
-        len: word_at(given, Coded::COUNT),
+        len: word_at(given, Spelled::COUNT),
         nodes: nodes(given),
     }
 }

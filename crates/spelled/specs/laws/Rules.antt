@@ -13,7 +13,7 @@ use lib.Seq.{getD-at, take-suc-set}
 use Rattle.rule.specs.declared.Node.the-variants.{Name}
 use Rattle.rule.specs.declared.Slot.{Slot}
 use Rattle.rule.specs.Form.{HeadFits, UsesLater, WellFormed, nodeAt, nodeLimit}
-use Rattle.coded.specs.Rules.{countPlace, firstPlace, headOf, kindOf, noHead, noNode, nodeOf, nodeWords, nodesBelow, ruleOf, ruleWords, word}
+use Rattle.spelled.specs.Rules.{countPlace, firstPlace, headOf, kindOf, noHead, noNode, nodeOf, nodeWords, nodesBelow, ruleOf, ruleWords, word}
 
 -- one node more is read
 pub nodes-more : (g : List ℕ) (i : ℕ) (s : List Slot) → i < length s → take i s ≡ nodesBelow g i

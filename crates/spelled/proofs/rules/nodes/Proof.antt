@@ -1,14 +1,14 @@
--- `coded::rules::nodes` meets its contract: the first i nodes are read. Assumes nothing.
+-- `spelled::rules::nodes` meets its contract: the first i nodes are read. Assumes nothing.
 use Prim.Native.Nat.{_-_, _≤_, _<_}
 use mathlib.Core.Path.{_≡_, refl, sym, ap, _∙_}
 use native.Mathlib.Omega.{arith}
 use lib.ListN.{length, take, length-set}
 use lib.Seq.{take-all}
 use borrow.Author.Needs.{needs}
-use Rattle.coded.specs.Rules.{nodesBelow}
-use Rattle.coded.specs.laws.Rules.{nodes-more}
-use Rattle.coded.proofs.rules.nodes.Statement.{statement}
-use Rattle.coded.proofs.rules.nodes.Tie as tie
+use Rattle.spelled.specs.Rules.{nodesBelow}
+use Rattle.spelled.specs.laws.Rules.{nodes-more}
+use Rattle.spelled.proofs.rules.nodes.Statement.{statement}
+use Rattle.spelled.proofs.rules.nodes.Tie as tie
 
 abbrev Inv-loop : tie.InvT-loop
 Inv-loop given slots₀ i₀ slots i = (i ≤ 32) × (length slots ≡ 32) × (take i slots ≡ nodesBelow given i)

@@ -1,9 +1,9 @@
--- `coded::rules::kind_head` meets its contract: each kind of rule gives its case. Assumes nothing.
+-- `spelled::rules::kind_head` meets its contract: each kind of rule gives its case. Assumes nothing.
 use borrow.Author.Tests.{ne-eqb}
-use Rattle.coded.specs.Rules.{kindOf}
+use Rattle.spelled.specs.Rules.{kindOf}
 use borrow.Author.Needs.{needs}
-use Rattle.coded.proofs.rules.kind_head.Statement.{statement}
-use Rattle.coded.proofs.rules.kind_head.Tie as tie
+use Rattle.spelled.proofs.rules.kind_head.Statement.{statement}
+use Rattle.spelled.proofs.rules.kind_head.Tie as tie
 
 word-at-requires : tie.Need-word-at-requires
 word-at-requires c κs = search needs

@@ -1,7 +1,7 @@
--- `coded::rules::role_use` meets its contract. Assumes nothing.
+-- `spelled::rules::role_use` meets its contract. Assumes nothing.
 use borrow.Author.Needs.{needs}
-use Rattle.coded.proofs.rules.role_use.Statement.{statement}
-use Rattle.coded.proofs.rules.role_use.Tie as tie
+use Rattle.spelled.proofs.rules.role_use.Statement.{statement}
+use Rattle.spelled.proofs.rules.role_use.Tie as tie
 
 word-at-requires : tie.Need-word-at-requires
 word-at-requires c κs = search needs

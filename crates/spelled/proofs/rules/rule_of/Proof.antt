@@ -1,7 +1,7 @@
--- `coded::rules::rule_of` meets its contract: head, number of nodes and nodes as the words say. Assumes nothing.
+-- `spelled::rules::rule_of` meets its contract: head, number of nodes and nodes as the words say. Assumes nothing.
 use borrow.Author.Needs.{needs}
-use Rattle.coded.proofs.rules.rule_of.Statement.{statement}
-use Rattle.coded.proofs.rules.rule_of.Tie as tie
+use Rattle.spelled.proofs.rules.rule_of.Statement.{statement}
+use Rattle.spelled.proofs.rules.rule_of.Tie as tie
 
 head-requires : tie.Need-head-requires
 head-requires c κs = search needs

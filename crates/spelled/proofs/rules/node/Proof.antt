@@ -1,9 +1,9 @@
--- `coded::rules::node` meets its contract: each kind of node gives its case. Assumes nothing.
+-- `spelled::rules::node` meets its contract: each kind of node gives its case. Assumes nothing.
 use borrow.Author.Tests.{ne-eqb}
-use Rattle.coded.specs.Rules.{nodeOf}
+use Rattle.spelled.specs.Rules.{nodeOf}
 use borrow.Author.Needs.{needs}
-use Rattle.coded.proofs.rules.node.Statement.{statement}
-use Rattle.coded.proofs.rules.node.Tie as tie
+use Rattle.spelled.proofs.rules.node.Statement.{statement}
+use Rattle.spelled.proofs.rules.node.Tie as tie
 
 word-at-requires : tie.Need-word-at-requires
 word-at-requires c κs = search needs

@@ -1,0 +1,2 @@
+-- What is proved of rules as words.
+pub mod Rules
