@@ -38,8 +38,8 @@ fn breaks_alone(
         Head::Sub(_, _) => row::bit::both(row::pick::has(left, x), !row::pick::has(right, x)),
         Head::RoleSub(_, _) => false,
         Head::Chain(_, _, _, _, _, _) => false,
-        Head::Ref(u) => !expression::look::linked(words, at, counts, u, x, x),
-        Head::Irr(u) => expression::look::linked(words, at, counts, u, x, x),
+        Head::Ref(u) => !links::look::linked(words, at, counts, u, x, x),
+        Head::Irr(u) => links::look::linked(words, at, counts, u, x, x),
         Head::Dis(_, _) => false,
         Head::In(_, a) => row::bit::both(x == a.0, !row::pick::has(left, x)),
         Head::Rel(_, _, _) => false,
@@ -123,26 +123,26 @@ pub fn pair_row(words: &[u64], at: Layout, counts: Counts, head: Head, x: usize)
     match head {
         Head::Sub(_, _) => row::pick::empty(),
         Head::RoleSub(u, v) => {
-            let on = expression::found::links(words, at, counts, u, x);
-            row::pick::without(&on, &expression::found::links(words, at, counts, v, x))
+            let on = links::found::links(words, at, counts, u, x);
+            row::pick::without(&on, &links::found::links(words, at, counts, v, x))
         }
         Head::Chain(k, a, b, c, d, u) => {
-            let on = expression::reach::path_row(words, at, counts, k, a, b, c, d, x);
-            row::pick::without(&on, &expression::found::links(words, at, counts, u, x))
+            let on = links::reach::path_row(words, at, counts, k, a, b, c, d, x);
+            row::pick::without(&on, &links::found::links(words, at, counts, u, x))
         }
         Head::Ref(_) => row::pick::empty(),
         Head::Irr(_) => row::pick::empty(),
         Head::Dis(u, v) => {
-            let on = expression::found::links(words, at, counts, u, x);
-            row::pick::meet(&on, &expression::found::links(words, at, counts, v, x))
+            let on = links::found::links(words, at, counts, u, x);
+            row::pick::meet(&on, &links::found::links(words, at, counts, v, x))
         }
         Head::In(_, _) => row::pick::empty(),
         Head::Rel(u, a, b) => {
-            let on = expression::look::linked(words, at, counts, u, x, b.0);
+            let on = links::look::linked(words, at, counts, u, x, b.0);
             named(counts, x, a, b, !on)
         }
         Head::NoRel(u, a, b) => {
-            let on = expression::look::linked(words, at, counts, u, x, b.0);
+            let on = links::look::linked(words, at, counts, u, x, b.0);
             named(counts, x, a, b, on)
         }
         Head::Same(a, b) => {

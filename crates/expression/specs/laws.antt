@@ -1,6 +1,4 @@
 -- What is proved of the rows of expressions.
 pub mod Holding
-pub mod Found
 pub mod Many
 pub mod Tally
-pub mod Reach

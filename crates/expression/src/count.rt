@@ -7,8 +7,8 @@ ghost use Rattle.store.specs.Cell.{DeclaredItem};
 ghost use Rattle.store.specs.Layout.{ClosedStore, Holds};
 ghost use Rattle.store.specs.own.Laid.{Laid};
 ghost use Rattle.rule.specs.Meaning.{Articles, Linked};
+ghost use Rattle.links.specs.own.Reach.{Reached};
 ghost use Rattle.expression.specs.own.Many.{Leaders};
-ghost use Rattle.expression.specs.own.Reach.{Reached};
 ghost use Rattle.expression.specs.own.Row.{Found, turned as turnedOf};
 use row::Row;
 use rule::RoleUse;
@@ -38,7 +38,7 @@ fn apart(words: &[u64], at: Layout, counts: Counts, u: RoleUse, p: &Row, q: &Row
     requires { ⌜ Laid at (now words) × ClosedStore (at .width) counts (now words) ⌝ }
     ensures { λ r. ⌜ Leaders (Holds (at .width) counts (now (words .entry))) counts (λ b. Reached (Linked (Holds (at .width) counts (now (words .entry))) u) (RowHas (now (q .entry))) b × RowHas (now (p .entry)) b) (counts .items) (RowHas r) ⌝ }
 {
-    let all = crate::reach::step_row(words, at, counts, u, q);
+    let all = links::reach::step_row(words, at, counts, u, q);
     let both = row::pick::meet(&all, p);
     leaders(words, at, counts, both)
 }
@@ -109,7 +109,7 @@ pub fn many(words: &[u64], at: Layout, counts: Counts, k: usize, u: RoleUse, p: 
         return crate::tally::tally(words, at, counts, k, role, p);
     }
     let back = turned(u);
-    let some = crate::reach::step_row(words, at, counts, back, p);
+    let some = links::reach::step_row(words, at, counts, back, p);
     if k == 1 {
         return some;
     }

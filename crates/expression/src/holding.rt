@@ -56,7 +56,7 @@ fn selves(words: &[u64], at: Layout, counts: Counts, u: RoleUse) -> Row
     let mut r = row::pick::empty();
     let mut x = 0;
     while x < counts.items {
-        let on = crate::look::linked(words, at, counts, u, x, x);
+        let on = links::look::linked(words, at, counts, u, x, x);
         row::pick::mark(&mut r, x, on);
         x += 1;
     }

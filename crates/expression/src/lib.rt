@@ -1,8 +1,5 @@
 // The rows of what an expression holds of, in a closed store: whole rows of items at once, a node at a time.
 mod children;
 mod count;
-pub mod found;
 pub mod holding;
-pub mod look;
-pub mod reach;
 mod tally;

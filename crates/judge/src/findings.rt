@@ -97,7 +97,7 @@ fn seek_alone(words: &[u64], at: Layout, counts: Counts, plan: Plan, from: usize
             y: 0,
         };
     }
-    let place = expression::reach::item_row(0);
+    let place = links::reach::item_row(0);
     Cursor {
         plan,
         row: place,
@@ -140,7 +140,7 @@ pub fn advance(words: &[u64], at: Layout, counts: Counts, c: Cursor) -> Cursor
     if counts.items <= x {
         return c;
     }
-    let here = expression::reach::item_row(c.y);
+    let here = links::reach::item_row(c.y);
     let rest = row::pick::without(&left, &here);
     let y = row::pick::least(&rest);
     if y < counts.items {

@@ -27,9 +27,9 @@ use Rattle.rule.specs.declared.RoleUse.{RoleUse}
 use Rattle.rule.specs.Meaning.{Different, LinkedWay, Linked, Articles}
 use Rattle.rule.specs.Meaning.Different.{none, more}
 use Rattle.rule.specs.laws.Articles.{Covered, cover-le, fewer-articles}
+use Rattle.links.specs.own.Reach.{Reached}
 use Rattle.expression.specs.own.Many.{Leaders}
 use Rattle.expression.specs.own.Row.{Found, turned}
-use Rattle.expression.specs.own.Reach.{Reached}
 
 -- ---- one article: by the turned role
 

@@ -22,7 +22,7 @@ use Rattle.rule.specs.declared.Head.{Head}
 use Rattle.breach.specs.declared.Plan.{Plan}
 use Rattle.rule.specs.declared.Second.{Second}
 use Rattle.rule.specs.Findings.{Before, SecondBefore, findingOf}
-use Rattle.expression.specs.own.Reach.{ItemRow}
+use Rattle.links.specs.own.Reach.{ItemRow}
 use Rattle.breach.specs.own.Plan.{BreaksBy, PlaceBreaks, PlaceIf, PlanBreaks, isPair, placeOf, secondAt, secondIf}
 use Rattle.judge.specs.own.Cursor.{Advances, Ahead, Begins, BrokenBelow, Gone, Left, Listed, PlanBroken, Sought, Stands, currentOf}
 use Rattle.breach.specs.laws.Plan.{breaks-item, breaks-place, breaks-second, place-breaks, place-second, place-unique}

@@ -10,9 +10,9 @@ use Rattle.row.specs.own.Pick.{Marks, room}
 use Rattle.row.specs.laws.Marks.{marks-done, marks-more, marks-none, marks-skip}
 use Rattle.store.specs.Layout.{Holds}
 use Rattle.rule.specs.Meaning.{Articles}
+use Rattle.links.specs.laws.Reach.{none-between}
 use Rattle.expression.specs.own.Row.{Found}
 use Rattle.expression.specs.laws.Many.{several-articles, several-none, several-some}
-use Rattle.expression.specs.laws.Reach.{none-between}
 use Rattle.expression.proofs.count.several.Statement.{statement}
 use Rattle.expression.proofs.count.several.Tie as tie
 

@@ -1,10 +1,10 @@
--- `expression::reach::step_row` meets its contract, by the side that it asks. Assumes nothing.
+-- `links::reach::step_row` meets its contract, by the side that it asks. Assumes nothing.
 use mathlib.Core.Path.{_≡_}
 use mathlib.Core.Bool.{true, false}
 use borrow.Author.Needs.{needs}
-use Rattle.expression.specs.laws.Reach.{reached-none}
-use Rattle.expression.proofs.reach.step_row.Statement.{statement}
-use Rattle.expression.proofs.reach.step_row.Tie as tie
+use Rattle.links.specs.laws.Reach.{reached-none}
+use Rattle.links.proofs.reach.step_row.Statement.{statement}
+use Rattle.links.proofs.reach.step_row.Tie as tie
 
 empty-requires : tie.Need-empty-requires
 empty-requires c κs = search needs

@@ -1,10 +1,10 @@
--- `expression::reach::path_row` meets its contract: the row of x's links, then a step for each role more that counts. Assumes nothing.
+-- `links::reach::path_row` meets its contract: the row of x's links, then a step for each role more that counts. Assumes nothing.
 use native.Mathlib.Omega.{arith}
 use borrow.Author.Needs.{needs}
 use Rattle.store.specs.Layout.{Holds}
-use Rattle.expression.specs.laws.Reach.{ends-last, ends-more, ends-none, path-first, path-none, take-four}
-use Rattle.expression.proofs.reach.path_row.Statement.{statement}
-use Rattle.expression.proofs.reach.path_row.Tie as tie
+use Rattle.links.specs.laws.Reach.{ends-last, ends-more, ends-none, path-first, path-none, take-four}
+use Rattle.links.proofs.reach.path_row.Statement.{statement}
+use Rattle.links.proofs.reach.path_row.Tie as tie
 
 item-row-requires : tie.Need-item-row-requires
 item-row-requires c κs = search needs

@@ -21,7 +21,7 @@ use Rattle.store.specs.own.Look.{LinksJoined, LinksMeet}
 use Rattle.rule.specs.declared.RoleUse.{RoleUse}
 use Rattle.rule.specs.Meaning.{LinkedWay, Linked}
 use Rattle.rule.specs.Breaks.{Path}
-use Rattle.expression.specs.own.Reach.{Reached, Ends, Gathered, ItemRow}
+use Rattle.links.specs.own.Reach.{Reached, Ends, Gathered, ItemRow}
 
 -- ---- the items that the items of a row are linked to
 

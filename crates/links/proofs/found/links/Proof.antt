@@ -1,8 +1,8 @@
--- `expression::found::links` meets its contract: no row, the row of the role's links, or that of its inverse's. Assumes nothing.
+-- `links::found::links` meets its contract: no row, the row of the role's links, or that of its inverse's. Assumes nothing.
 use borrow.Author.Needs.{needs}
-use Rattle.expression.specs.laws.Found.{links-back, links-none, links-row}
-use Rattle.expression.proofs.found.links.Statement.{statement}
-use Rattle.expression.proofs.found.links.Tie as tie
+use Rattle.links.specs.laws.Found.{links-back, links-none, links-row}
+use Rattle.links.proofs.found.links.Statement.{statement}
+use Rattle.links.proofs.found.links.Tie as tie
 
 empty-requires : tie.Need-empty-requires
 empty-requires c κs = search needs

@@ -1,8 +1,8 @@
--- `expression::reach::touches` meets its contract: the row of the links and the row have an item in common. Assumes nothing.
+-- `links::reach::touches` meets its contract: the row of the links and the row have an item in common. Assumes nothing.
 use borrow.Author.Needs.{needs}
-use Rattle.expression.specs.laws.Reach.{reached-back}
-use Rattle.expression.proofs.reach.touches.Statement.{statement}
-use Rattle.expression.proofs.reach.touches.Tie as tie
+use Rattle.links.specs.laws.Reach.{reached-back}
+use Rattle.links.proofs.reach.touches.Statement.{statement}
+use Rattle.links.proofs.reach.touches.Tie as tie
 
 links-meet-requires : tie.Need-links-meet-requires
 links-meet-requires c κs = search needs

@@ -1,7 +1,7 @@
--- `expression::look::linked` meets its contract, by the side that it asks. Assumes nothing.
+-- `links::look::linked` meets its contract, by the side that it asks. Assumes nothing.
 use borrow.Author.Needs.{needs}
-use Rattle.expression.proofs.look.linked.Statement.{statement}
-use Rattle.expression.proofs.look.linked.Tie as tie
+use Rattle.links.proofs.look.linked.Statement.{statement}
+use Rattle.links.proofs.look.linked.Tie as tie
 
 link-requires : tie.Need-link-requires
 link-requires c κs = search needs

@@ -1,4 +1,4 @@
--- `expression::reach::backward` meets its contract. The loop's invariant is the contract below `y`. Assumes nothing.
+-- `links::reach::backward` meets its contract. The loop's invariant is the contract below `y`. Assumes nothing.
 use mathlib.Core.Path.{_≡_, _∙_}
 use mathlib.Core.Bool.{true}
 use Prim.Native.Nat.{_≤_, _-_}
@@ -10,11 +10,11 @@ use Rattle.row.specs.own.Row.{RowHas}
 use Rattle.row.specs.own.Pick.{Marks, room}
 use Rattle.store.specs.Layout.{Holds}
 use Rattle.rule.specs.Meaning.{LinkedWay}
-use Rattle.expression.specs.own.Reach.{Reached}
+use Rattle.links.specs.own.Reach.{Reached}
 use Rattle.row.specs.laws.Marks.{marks-done, marks-more, marks-none}
-use Rattle.expression.specs.laws.Reach.{marks-pass, reached-no}
-use Rattle.expression.proofs.reach.backward.Statement.{statement}
-use Rattle.expression.proofs.reach.backward.Tie as tie
+use Rattle.links.specs.laws.Reach.{marks-pass, reached-no}
+use Rattle.links.proofs.reach.backward.Statement.{statement}
+use Rattle.links.proofs.reach.backward.Tie as tie
 
 abbrev Inv-loop : tie.InvT-loop
 Inv-loop words at counts role p r₀ y₀ r y = (y ≤ counts .items) × (length r ≡ room) × Marks y r (Reached (LinkedWay (Holds (at .width) counts words) true role) (RowHas p))

@@ -1,4 +1,4 @@
--- `expression::reach::forward` meets its contract. The loop's invariant: the links of the items below `z` are there. Assumes nothing.
+-- `links::reach::forward` meets its contract. The loop's invariant: the links of the items below `z` are there. Assumes nothing.
 use mathlib.Core.Path.{_≡_}
 use mathlib.Core.Bool.{false}
 use Prim.Native.Nat.{_≤_, _-_}
@@ -9,10 +9,10 @@ use Rattle.row.specs.own.Row.{RowHas}
 use Rattle.row.specs.own.Pick.{room}
 use Rattle.store.specs.Layout.{Holds}
 use Rattle.rule.specs.Meaning.{LinkedWay}
-use Rattle.expression.specs.own.Reach.{Gathered}
-use Rattle.expression.specs.laws.Reach.{gathered-none, gathered-more, gathered-skip, gathered-done, none-between}
-use Rattle.expression.proofs.reach.forward.Statement.{statement}
-use Rattle.expression.proofs.reach.forward.Tie as tie
+use Rattle.links.specs.own.Reach.{Gathered}
+use Rattle.links.specs.laws.Reach.{gathered-none, gathered-more, gathered-skip, gathered-done, none-between}
+use Rattle.links.proofs.reach.forward.Statement.{statement}
+use Rattle.links.proofs.reach.forward.Tie as tie
 
 abbrev Inv-loop : tie.InvT-loop
 Inv-loop words at counts role p r₀ z₀ r z = (z ≤ counts .items) × (length r ≡ room) × Gathered (counts .items) (LinkedWay (Holds (at .width) counts words) false role) (RowHas p) z r

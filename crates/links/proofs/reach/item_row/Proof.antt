@@ -1,8 +1,8 @@
--- `expression::reach::item_row` meets its contract: the one number is marked in an empty row. Assumes nothing.
+-- `links::reach::item_row` meets its contract: the one number is marked in an empty row. Assumes nothing.
 use borrow.Author.Needs.{needs}
-use Rattle.expression.specs.laws.Reach.{item-row-marked, item-row-past}
-use Rattle.expression.proofs.reach.item_row.Statement.{statement}
-use Rattle.expression.proofs.reach.item_row.Tie as tie
+use Rattle.links.specs.laws.Reach.{item-row-marked, item-row-past}
+use Rattle.links.proofs.reach.item_row.Statement.{statement}
+use Rattle.links.proofs.reach.item_row.Tie as tie
 
 mul-if1 : tie.Need-mul-if1
 mul-if1 c = search needs

@@ -9,7 +9,7 @@ ghost use Rattle.store.specs.Layout.{ClosedStore, Holds};
 ghost use Rattle.store.specs.own.Laid.{Laid};
 ghost use Rattle.rule.specs.Meaning.{Linked, LinkedWay};
 ghost use Rattle.rule.specs.Breaks.{Path};
-ghost use Rattle.expression.specs.own.Reach.{ItemRow, Reached};
+ghost use Rattle.links.specs.own.Reach.{ItemRow, Reached};
 ghost use Rattle.store.specs.Cell.{DeclaredItem};
 use row::ROOM;
 use row::Row;
