@@ -11,7 +11,7 @@ use Rattle.field.specs.Names.{countsOf}
 use Rattle.sheet.specs.Promise.{Held, refusedText}
 use Rattle.sheet.specs.Said.{Said, SheetStatement, lineOf, outcome}
 use Rattle.sheet.specs.Said.Outcome.{accepted, refused as refusedAt}
-use Rattle.why.specs.Finding.{BrokenSub, notBroken}
+use Rattle.finding.specs.Finding.{BrokenSub, notBroken}
 use Rattle.why.specs.Listed.{linesOf}
 use Rattle.why.specs.Promise.{notTrue}
 use Rattle.why.specs.Reason.{Reason}

@@ -14,12 +14,12 @@ ghost use Rattle.answer.specs.own.Asked.{Asking, BreakingIf, FindingIf, 
 use crate::CellAsked;
 use crate::FindingAsked;
 use field::Form;
+use finding::Sides;
 use line::Marks;
 use line::Sheet;
 use store::Counts;
 use store::Item;
 use store::Statement;
-use why::Sides;
 
 // The question without a line feed at its end.
 pub fn bare(question: &[u8]) -> &[u8]
@@ -118,7 +118,7 @@ fn sides_if(
     ensures { λ r. ⌜ BreakingIf on (now (sheet .entry)) (tableOf (now (names .entry)) counts) (now (words .entry)) k a r ⌝ }
 {
     if on {
-        return why::finding::broken(sheet, names, counts, words, k, a);
+        return finding::broken(sheet, names, counts, words, k, a);
     }
     Sides {
         named: false,

@@ -10,9 +10,9 @@ use Rattle.store.specs.Cell.Cell.{Same, Under, RoleUnder, In, Link}
 use Rattle.store.specs.Layout.{conceptLimit, roleLimit}
 use Rattle.why.specs.declared.Explained.{Explained}
 use Rattle.why.specs.declared.Explained.the-variants as explained
-use Rattle.why.specs.declared.FindingExplained.{FindingExplained}
-use Rattle.why.specs.declared.FindingExplained.the-variants as finding
-use Rattle.why.specs.Finding.{ExplainsFinding}
+use Rattle.finding.specs.declared.FindingExplained.{FindingExplained}
+use Rattle.finding.specs.declared.FindingExplained.the-variants as finding
+use Rattle.finding.specs.Finding.{ExplainsFinding}
 use Rattle.why.specs.Promise.{Explains}
 use Rattle.answer.specs.Promise.{Answers}
 use Rattle.handover.specs.Room.{InRoom}

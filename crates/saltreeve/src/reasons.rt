@@ -3,13 +3,13 @@ ghost use mathlib.Core.Path.{_≡_};
 ghost use Prim.Native.Nat.{_<_};
 ghost use Rattle.store.specs.Cell.{cellOf};
 ghost use Rattle.saltreeve.specs.Why.{ExplainCode, FindingCode, Whys, SmallExplained, SmallFinding, cellOfKind, explainedCode, findingCode, refusalCode};
+use finding::FindingExplained;
 use store::Concept;
 use store::Item;
 use store::Role;
 use store::Statement;
 use store::Store;
 use why::Explained;
-use why::FindingExplained;
 
 // Answers a question about a sheet: writes the text to the lent room, or nothing if it is longer than the room.
 #[no_mangle]
@@ -95,5 +95,5 @@ pub extern "C" fn saltreeve_explain_finding(
 ) -> i64
     ensures { λ r. ⌜ FindingCode (now (sheet .entry)) (now (words .entry)) (now (words .exit)) rule item (now (list .entry)) (now (list .exit)) r ⌝ }
 {
-    finding(why::finding::explain(sheet, words, rule, Item(item), list))
+    finding(finding::explain(sheet, words, rule, Item(item), list))
 }

@@ -3,7 +3,6 @@ pub mod Reason
 pub mod Listed
 pub mod Rising
 pub mod Promise
-pub mod Finding
 pub mod Settled
 pub mod own
 pub mod laws

@@ -2,8 +2,6 @@
 use mathlib.Core.Path.{_≡_}
 use Rattle.why.specs.declared.Explained.{Explained}
 use Rattle.why.specs.declared.Explained.the-variants.{Lines, Refused}
-use Rattle.why.specs.declared.FindingExplained.{FindingExplained}
-use Rattle.why.specs.declared.FindingExplained.the-variants as finding
 
 -- both are a reason, or both are the same refusal
 abbrev pub SameAnswer : Explained → Explained → Type 0
@@ -11,10 +9,3 @@ SameAnswer (Lines m) (Lines j) = Unit {0}
 SameAnswer (Lines m) (Refused n k) = ⊥
 SameAnswer (Refused n k) (Lines m) = ⊥
 SameAnswer (Refused n k) (Refused i j) = (n ≡ i) × (k ≡ j)
-
--- both are a reason with the same concept in which the item is not, or both are the same refusal
-abbrev pub SameFinding : FindingExplained → FindingExplained → Type 0
-SameFinding (finding.Lines m c) (finding.Lines j d) = c ≡ d
-SameFinding (finding.Lines m c) (finding.Refused n k) = ⊥
-SameFinding (finding.Refused n k) (finding.Lines m c) = ⊥
-SameFinding (finding.Refused n k) (finding.Refused i j) = (n ≡ i) × (k ≡ j)

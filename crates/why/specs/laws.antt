@@ -7,6 +7,4 @@ pub mod Gather
 pub mod Listed
 pub mod Rising
 pub mod Explained
-pub mod Finding
-pub mod ExplainedFinding
 pub mod Settled

@@ -3,4 +3,3 @@ pub mod Stating
 pub mod Asked
 pub mod Gather
 pub mod Writing
-pub mod Sides

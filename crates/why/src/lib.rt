@@ -1,5 +1,4 @@
 // Why a cell is true: statement lines of a sheet from which it follows, and from no part of them with a line taken out.
-pub mod finding;
 pub mod gather;
 mod stating;
 
@@ -12,7 +11,6 @@ ghost use Rattle.why.specs.Promise.{Explains};
 ghost use Rattle.why.specs.own.Writing.{Answered, Lists, PutIf};
 use field::Table;
 use reason::Lines;
-use store::Concept;
 use store::Counts;
 use store::Statement;
 use store::Store;
@@ -31,27 +29,6 @@ pub enum Explained {
     Lines(usize),
     // The line and the number of refusal; line 0 is the whole sheet, and the line of 24.
     Refused(usize, usize),
-}
-
-// What asking why an item is a finding gives.
-pub enum FindingExplained {
-    // How many lines there are in all, and the concept in which the item is not.
-    Lines(usize, Concept),
-    // The line and the number of refusal; line 0 is the whole sheet, and the line of 25.
-    Refused(usize, usize),
-}
-
-// The concept of a node, if it is a name.
-pub struct NodeName {
-    pub named: bool,
-    pub concept: usize,
-}
-
-// The concepts on the sides of a rule, if it is `sub` with concept names.
-pub struct Sides {
-    pub named: bool,
-    pub left: usize,
-    pub right: usize,
 }
 
 // Puts a line's number into the list at the place i, if `on` and if the list reaches so far; the place after it.

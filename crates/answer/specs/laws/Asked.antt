@@ -34,9 +34,9 @@ use Rattle.field.specs.own.Table.{Table, namesOf}
 use Rattle.sheet.specs.own.Pass.{foundRule}
 use Rattle.sheet.specs.laws.Count.{Turn, turn-rules}
 use Rattle.sheet.specs.laws.Taken.{right-short}
-use Rattle.why.specs.declared.Sides.{Sides}
-use Rattle.why.specs.Finding.{BrokenSub}
-use Rattle.why.specs.own.Sides.{BrokenIf}
+use Rattle.finding.specs.declared.Sides.{Sides}
+use Rattle.finding.specs.Finding.{BrokenSub}
+use Rattle.finding.specs.own.Sides.{BrokenIf}
 use Rattle.answer.specs.declared.CellAsked.{CellAsked}
 use Rattle.answer.specs.declared.FindingAsked.{FindingAsked}
 use Rattle.answer.specs.own.Asked.{Asking, BreakingIf, BrokenIn, FindingIf, FindingIn, FormAsked, SidesIf}

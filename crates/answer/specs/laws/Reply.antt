@@ -34,7 +34,7 @@ use Rattle.why.specs.Listed.{linesOf}
 use Rattle.why.specs.Reason.{FollowsFrom, Reason}
 use Rattle.why.specs.laws.Explained.{opens-counts}
 use Rattle.why.specs.laws.Few.{statements-few}
-use Rattle.why.specs.laws.Finding.{broken-in}
+use Rattle.finding.specs.laws.Finding.{broken-in}
 use Rattle.answer.specs.declared.Absent.{Absent}
 use Rattle.answer.specs.declared.CellAsked.{CellAsked}
 use Rattle.answer.specs.declared.FindingAsked.{FindingAsked}

@@ -14,9 +14,9 @@ use Rattle.field.specs.Names.{Names}
 use Rattle.sheet.specs.Said.{Said, lineOf}
 use Rattle.saying.specs.Read.{statementOf}
 use Rattle.field.specs.Words.{Field}
-use Rattle.why.specs.declared.Sides.{Sides}
-use Rattle.why.specs.Finding.{BrokenSub}
-use Rattle.why.specs.own.Sides.{Breaking}
+use Rattle.finding.specs.declared.Sides.{Sides}
+use Rattle.finding.specs.Finding.{BrokenSub}
+use Rattle.finding.specs.own.Sides.{Breaking}
 use Rattle.answer.specs.declared.CellAsked.{CellAsked}
 use Rattle.answer.specs.declared.FindingAsked.{FindingAsked}
 use Rattle.answer.specs.Question.{AsksCell, AsksFinding}

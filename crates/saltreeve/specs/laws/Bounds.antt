@@ -35,9 +35,9 @@ use Rattle.saying.specs.laws.Judged.{Good, rule-good}
 use Rattle.sheet.specs.laws.Pass.{accepted-start, accepted-step, saidOf}
 use Rattle.sheet.specs.laws.Refused.{refused-small}
 use Rattle.why.specs.declared.Explained.{Explained}
-use Rattle.why.specs.declared.FindingExplained.{FindingExplained}
-use Rattle.why.specs.Finding.{BrokenSub, ExplainsFinding, SubOfNames, concept}
-use Rattle.why.specs.Finding.ExplainsFinding.{refused as refusedFinding, not-broken, found as foundFinding}
+use Rattle.finding.specs.declared.FindingExplained.{FindingExplained}
+use Rattle.finding.specs.Finding.{BrokenSub, ExplainsFinding, SubOfNames, concept}
+use Rattle.finding.specs.Finding.ExplainsFinding.{refused as refusedFinding, not-broken, found as foundFinding}
 use Rattle.why.specs.Promise.{Explains}
 use Rattle.why.specs.Promise.Explains.{refused as refusedCell, not-true, found}
 use Rattle.why.specs.Reason.{Reason}

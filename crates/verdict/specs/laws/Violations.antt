@@ -18,7 +18,7 @@ use Rattle.sheet.specs.Promise.{FindingsFrom}
 use Rattle.sheet.specs.Said.{RuleAt, Said, SheetRule, StatedIn, outcome}
 use Rattle.sheet.specs.Said.Outcome.{accepted}
 use Rattle.reason.specs.laws.Part.{one-right}
-use Rattle.why.specs.laws.Finding.{rule-unique}
+use Rattle.finding.specs.laws.Finding.{rule-unique}
 use Rattle.paper.specs.Satisfied.{ICSatisfies}
 use Rattle.paper.specs.laws.Canonical.{Settled, canonical}
 use Rattle.paper.specs.laws.TheoremB.{canonical-minimal}

@@ -16,32 +16,26 @@ use Rattle.sheet.specs.Said.{Said, SheetStatement, outcome}
 use Rattle.sheet.specs.Said.Outcome.{accepted}
 use Rattle.sheet.specs.laws.Pass.{not-both, saidOf}
 use Rattle.sheet.specs.laws.Unique.{reads-unique}
-use Rattle.store.specs.declared.Counts.{Counts}
-use Rattle.rule.specs.declared.Rule.{Rule}
 use Rattle.why.specs.declared.Explained.{Explained}
 use Rattle.why.specs.declared.Explained.the-variants.{Refused}
-use Rattle.why.specs.declared.FindingExplained.{FindingExplained}
-use Rattle.why.specs.Finding.{BrokenSub, ExplainsFinding, SubOfNames, concept}
-use Rattle.why.specs.Finding.ExplainsFinding.{refused as refusedFinding, not-broken, found as foundFinding}
 use Rattle.why.specs.Promise.{Explains}
 use Rattle.why.specs.Promise.Explains.{refused, not-true, found}
-use Rattle.why.specs.Settled.{SameAnswer, SameFinding}
+use Rattle.why.specs.Settled.{SameAnswer}
 use Rattle.why.specs.Reason.{Reason}
 use Rattle.reason.specs.laws.Part.{part-one}
-use Rattle.why.specs.laws.Finding.{right-unique, rule-unique}
 use Rattle.why.specs.laws.Reason.{follows-grows}
 
 -- an accepted sheet is not refused
-abbrev IsRefused : Reading → Type 0
+abbrev pub IsRefused : Reading → Type 0
 IsRefused (reading.Accepted c m k) = ⊥
 IsRefused (reading.Refused n k) = Unit {0}
 
-not-refused : {sheet s t : List ℕ} {r : Reading} (x : Said) → length s ≡ size width → outcome sheet ≡ accepted x → Reads sheet s t r → IsRefused r → ⊥
+pub not-refused : {sheet s t : List ℕ} {r : Reading} (x : Said) → length s ≡ size width → outcome sheet ≡ accepted x → Reads sheet s t r → IsRefused r → ⊥
 not-refused x l o (wrong-size z e) i = z l
 not-refused x l o (refusedRead m e h) i = not-both (sym e ∙ o)
 not-refused x l o (acceptedRead m e h f) i = i
 
-same-store : (sheet : List ℕ) {t u : List ℕ} (x y : Said) → Words 64 t → Words 64 u → outcome sheet ≡ accepted x → outcome sheet ≡ accepted y → Held x t → Held y u → t ≡ u
+pub same-store : (sheet : List ℕ) {t u : List ℕ} (x y : Said) → Words 64 t → Words 64 u → outcome sheet ≡ accepted x → outcome sheet ≡ accepted y → Held x t → Held y u → t ≡ u
 same-store sheet {u = u} x y wt wu o p h g = keeps-unique wt wu h (subst (λ (z : Said). Held z u) (ap saidOf (sym p ∙ o)) g)
 
 -- a reason for a cell is one for its being true
@@ -55,7 +49,7 @@ not-and-found sheet {u = u} {c = c} x y {lines} o p h g f r =
     let r′ : Reason (countsOf (x .names)) c (x .statements) lines = subst (λ (z : Said). Reason (countsOf (z .names)) c (z .statements) lines) e r in
     f (reason-holds x h r′)
 
-reading-same : {n k i j : ℕ} → reading.Refused n k ≡ reading.Refused i j → (n ≡ i) × (k ≡ j)
+pub reading-same : {n k i j : ℕ} → reading.Refused n k ≡ reading.Refused i j → (n ≡ i) × (k ≡ j)
 reading-same e = (cc, cc)
 
 pub explains-settled : {sheet s t u : List ℕ} {c : Cell} {before after other : List ℕ} {r q : Explained} → Words 64 t → Words 64 u → Explains sheet s t c before after r → Explains sheet s u c before other q
@@ -69,30 +63,3 @@ explains-settled {sheet} wt wu (not-true {x = x} l o h g f) (found {x = y} m p i
 explains-settled {sheet} wt wu (found {x = x} l o h g f) (refused b e) = absurd (not-refused x l o b tt)
 explains-settled {sheet} wt wu (found {x = x} l o h g f) (not-true {x = y} m p i j k) = absurd (not-and-found sheet y x p o i h j g)
 explains-settled {sheet} wt wu (found {x = x} l o h g f) (found {x = y} m p i j k) = (same-store sheet x y wt wu o p h i, tt)
-
--- ---- a finding
-
--- a rule broken in one store of the sheet is broken in any other
-broken-there : (sheet : List ℕ) {t u : List ℕ} {k a c d : ℕ} (x y : Said) → t ≡ u → outcome sheet ≡ accepted x → outcome sheet ≡ accepted y → BrokenSub (countsOf (y .names)) y u k a c d
-    → BrokenSub (countsOf (x .names)) x t k a c d
-broken-there sheet {t} {k = k} {a = a} {c = c} {d = d} x y e o p b =
-    let z = subst (λ (v : List ℕ). BrokenSub (countsOf (y .names)) y v k a c d) (sym e) b in
-    subst (λ (w : Said). BrokenSub (countsOf (w .names)) w t k a c d) (ap saidOf (sym p ∙ o)) z
-
--- its right side is one concept
-broken-right-unique : {x : Said} {n : Counts} {t : List ℕ} {k a c d c′ d′ : ℕ} → BrokenSub n x t k a c d → BrokenSub n x t k a c′ d′ → concept d ≡ concept d′
-broken-right-unique {c′ = c′} {d′ = d′} b g = right-unique (b .names) (subst (λ (u : Rule). SubOfNames u c′ d′) (rule-unique (g .there) (b .there)) (g .names))
-
-pub finding-settled : {sheet s t u : List ℕ} {k a : ℕ} {before after other : List ℕ} {r q : FindingExplained} → Words 64 t → Words 64 u → ExplainsFinding sheet s t k a before after r → ExplainsFinding sheet s u k a before other q
-    → (t ≡ u) × SameFinding r q
-finding-settled {sheet} wt wu (refusedFinding a e) (refusedFinding b f) = let z = reads-unique wt wu a b in (z .0, reading-same (z .1))
-finding-settled {sheet} wt wu (refusedFinding a e) (not-broken {x = y} l o h g f) = absurd (not-refused y l o a tt)
-finding-settled {sheet} wt wu (refusedFinding a e) (foundFinding {x = y} l o h g r f) = absurd (not-refused y l o a tt)
-finding-settled {sheet} wt wu (not-broken {x = x} l o h g f) (refusedFinding b e) = absurd (not-refused x l o b tt)
-finding-settled {sheet} wt wu (not-broken {x = x} l o h g f) (not-broken {x = y} m p i j e) = (same-store sheet x y wt wu o p h i, (refl, refl))
-finding-settled {sheet} wt wu (not-broken {x = x} l o h g f) (foundFinding {x = y} m p i j r e) = absurd (g _ _ (broken-there sheet x y (same-store sheet x y wt wu o p h i) o p j))
-finding-settled {sheet} wt wu (foundFinding {x = x} l o h g r f) (refusedFinding b e) = absurd (not-refused x l o b tt)
-finding-settled {sheet} wt wu (foundFinding {x = x} l o h g r f) (not-broken {x = y} m p i j e) = absurd (j _ _ (broken-there sheet y x (same-store sheet y x wu wt p o i h) p o g))
-finding-settled {sheet} wt wu (foundFinding {x = x} l o h g r f) (foundFinding {x = y} m p i j w e) =
-    let same = same-store sheet x y wt wu o p h i in
-    (same, broken-right-unique g (broken-there sheet x y same o p j))

@@ -1,4 +1,4 @@
--- `why::finding::rule_at` meets its contract. Assumes nothing.
+-- `finding::rule_at` meets its contract. Assumes nothing.
 use mathlib.Core.Path.{sym, _∙_}
 use mathlib.Core.List.{List, [], _∷_}
 use Prim.Native.Nat.{_+_, _-_, _≤_}
@@ -9,9 +9,9 @@ use Rattle.sheet.specs.Said.{SheetRule}
 use Rattle.sheet.specs.laws.Count.{Turn, turn-end, turn-next, turn-paused, turn-rules, turn-start}
 use Rattle.sheet.specs.laws.Pass.{accepted-start}
 use Rattle.sheet.specs.own.Pass.{foundRule}
 use Rattle.why.specs.own.Asked.{Of}
-use Rattle.why.proofs.finding.rule_at.Statement.{statement}
-use Rattle.why.proofs.finding.rule_at.Tie as tie
+use Rattle.finding.proofs.rule_at.Statement.{statement}
+use Rattle.finding.proofs.rule_at.Tie as tie
 
 abbrev Inv-loop : tie.InvT-loop
 Inv-loop sheet names counts k q₀ n₀ q n = Of sheet (tableOf names counts) (λ x. Turn sheet (tableOf names counts) x (λ (done : List SheetRule). length done ≤ k) q n) × (n ≤ q .past) × (q .past ≤ length sheet + 2) × (n ≤ k)

@@ -11,16 +11,16 @@ use Rattle.sheet.specs.declared.Ended.{Ended}
 use Rattle.field.specs.Names.{countsOf}
 use Rattle.sheet.specs.own.Stands.{Opens, keptTable}
 use Rattle.sheet.specs.laws.Count.{opens-held, opens-outcome, whole-refused}
-use Rattle.why.specs.declared.FindingExplained.the-variants.{Lines, Refused}
-use Rattle.why.specs.declared.Sides.{Sides}
-use Rattle.why.specs.Finding.{BrokenSub, ExplainsFinding, concept}
-use Rattle.why.specs.own.Sides.{Breaking, BrokenIf}
-use Rattle.why.specs.Finding.ExplainsFinding.{refused, not-broken, found}
+use Rattle.finding.specs.declared.FindingExplained.the-variants.{Lines, Refused}
+use Rattle.finding.specs.declared.Sides.{Sides}
+use Rattle.finding.specs.Finding.{BrokenSub, ExplainsFinding, concept}
+use Rattle.finding.specs.own.Sides.{Breaking, BrokenIf}
+use Rattle.finding.specs.Finding.ExplainsFinding.{refused, not-broken, found}
 use Rattle.why.specs.own.Asked.{Asked}
 use Rattle.why.specs.own.Writing.{Answered}
 use Rattle.why.specs.Reason.{Reason}
 use Rattle.why.specs.laws.Explained.{explains-asked, opens-counts}
-use Rattle.why.specs.laws.Finding.{broken-in}
+use Rattle.finding.specs.laws.Finding.{broken-in}
 
 module _ {sheet s numbers u : List ℕ} {e : Ended} (w : Opens sheet s numbers u e) (long : length s ≡ size width) (k a : ℕ) (before : List ℕ) where
   -- a refused sheet

@@ -22,9 +22,9 @@ use Rattle.rule.specs.Expr.Expr.{name}
 use Rattle.rule.specs.Form.{nodeAt}
 use Rattle.rule.specs.Meaning.{HoldsOf}
 use Rattle.sheet.specs.Said.{RuleAt, Said, SheetRule}
-use Rattle.why.specs.declared.NodeName.{NodeName}
-use Rattle.why.specs.Finding.{BrokenSub, SubOfNames, concept}
-use Rattle.why.specs.own.Sides.{NodeIs}
+use Rattle.finding.specs.declared.NodeName.{NodeName}
+use Rattle.finding.specs.Finding.{BrokenSub, SubOfNames, concept}
+use Rattle.finding.specs.own.Sides.{NodeIs}
 
 -- ---- the sides of a rule
 

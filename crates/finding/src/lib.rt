@@ -3,12 +3,9 @@ ghost use mathlib.Core.Path.{_≡_};
 ghost use mathlib.Core.Bool.{false};
 ghost use Rattle.sheet.specs.own.Pass.{Accepts, Judges};
 ghost use Rattle.field.specs.own.Table.{Tidy, tableOf};
 ghost use Rattle.why.specs.own.Asked.{Of};
-ghost use Rattle.why.specs.Finding.{ExplainsFinding};
-ghost use Rattle.why.specs.own.Sides.{Breaking, NodeIs, RuleFound, SidesAre};
-use crate::FindingExplained;
-use crate::NodeName;
-use crate::Sides;
+ghost use Rattle.finding.specs.Finding.{ExplainsFinding};
+ghost use Rattle.finding.specs.own.Sides.{Breaking, NodeIs, RuleFound, SidesAre};
 use field::Table;
 use rule::Head;
 use rule::Node;
@@ -19,6 +16,27 @@ use store::Counts;
 use store::Item;
 use store::Statement;
 use store::Store;
+
+// What asking why an item is a finding gives.
+pub enum FindingExplained {
+    // How many lines there are in all, and the concept in which the item is not.
+    Lines(usize, Concept),
+    // The line and the number of refusal; line 0 is the whole sheet, and the line of 25.
+    Refused(usize, usize),
+}
+
+// The concept of a node, if it is a name.
+pub struct NodeName {
+    pub named: bool,
+    pub concept: usize,
+}
+
+// The concepts on the sides of a rule, if it is `sub` with concept names.
+pub struct Sides {
+    pub named: bool,
+    pub left: usize,
+    pub right: usize,
+}
 
 // No name.
 fn no_name() -> NodeName
@@ -81,7 +99,7 @@ fn sides_at(u: Rule, a: usize, b: usize) -> Sides
 }
 
 // The sides of a rule, if it is `sub` with concept names on both.
-fn sides(u: Rule) -> Sides
+fn sides_of(u: Rule) -> Sides
     ensures { λ r. ⌜ SidesAre (r .named) u r ⌝ }
 {
     let head = u.head;
@@ -134,7 +152,7 @@ pub fn broken(
         return no_sides();
     }
     let u = q.rule;
-    let s = sides(u);
+    let s = sides_of(u);
     if !s.named {
         return no_sides();
     }
@@ -176,6 +194,6 @@ pub fn explain(
         return FindingExplained::Refused(0, 25);
     }
     let left = Statement::In(a, Concept(s.left));
-    let total = crate::list(sheet, &names, counts, left, room);
+    let total = why::list(sheet, &names, counts, left, room);
     FindingExplained::Lines(total, Concept(s.right))
 }

@@ -11,10 +11,10 @@ use Rattle.rule.specs.declared.Rule.{Rule}
 use Rattle.field.specs.own.Table.{Table}
 use Rattle.sheet.specs.declared.RuleLine.{RuleLine}
 use Rattle.sheet.specs.Said.{RuleAt, Said}
-use Rattle.why.specs.declared.NodeName.{NodeName}
-use Rattle.why.specs.declared.Sides.{Sides}
+use Rattle.finding.specs.declared.NodeName.{NodeName}
+use Rattle.finding.specs.declared.Sides.{Sides}
 use Rattle.why.specs.own.Asked.{Of}
-use Rattle.why.specs.Finding.{BrokenSub, SubOfNames}
+use Rattle.finding.specs.Finding.{BrokenSub, SubOfNames}
 
 -- the concept of a node, if it is a name
 abbrev pub NodeIs : Node → NodeName → Type 0

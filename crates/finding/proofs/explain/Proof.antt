@@ -1,14 +1,14 @@
--- `why::finding::explain` meets its contract. Assumes nothing.
+-- `finding::explain` meets its contract. Assumes nothing.
 use mathlib.Core.Path.{refl}
 use native.Mathlib.Omega.{arith}
 use borrow.Author.Tests.{not-false, not-true}
 use Rattle.sheet.specs.Promise.Reads.{wrong-size}
 use Rattle.sheet.specs.laws.Count.{opens-judges}
-use Rattle.why.specs.Finding.ExplainsFinding.{refused}
-use Rattle.why.specs.laws.ExplainedFinding.{finding-asked, finding-found, finding-not, finding-refused}
+use Rattle.finding.specs.Finding.ExplainsFinding.{refused}
+use Rattle.finding.specs.laws.Explained.{finding-asked, finding-found, finding-not, finding-refused}
 use borrow.Author.Needs.{needs}
-use Rattle.why.proofs.finding.explain.Statement.{statement}
-use Rattle.why.proofs.finding.explain.Tie as tie
+use Rattle.finding.proofs.explain.Statement.{statement}
+use Rattle.finding.proofs.explain.Tie as tie
 
 returns : tie.Need-returns
 returns c = refused (wrong-size (c .if1 .taken) refl) refl
