@@ -1,5 +1,5 @@
 ghost use mathlib.Core.Path.{_≡_};
-ghost use mathlib.Core.Bool.{true, false};
+ghost use mathlib.Core.Bool.{false};
 ghost use Prim.Native.Nat.{_+_, _≤_};
 ghost use lib.ListN.{length, drop};
 ghost use Rattle.text.specs.Bytes.{every};
@@ -9,7 +9,7 @@ ghost use Rattle.line.specs.Fault.{lineLimit};
 ghost use Rattle.field.specs.Due.{statementLineup};
 ghost use Rattle.field.specs.own.Line.{Looked};
 ghost use Rattle.field.specs.own.Table.{Tidy, namesOf, tableOf};
-ghost use Rattle.sheet.specs.own.Quick.{Named, Plainly, Stated};
+ghost use Rattle.sheet.specs.own.Quick.{Finds, Named, Plainly, Stated};
 use crate::StatementLine;
 use field::Form;
 use field::StatementWord;
@@ -52,7 +52,7 @@ fn named(
     w: StatementWord,
 ) -> StatementLine
     requires { ⌜ Tidy (now sheet) (tableOf (now names) counts) × Looked (now line) (now ends) ⌝ }
-    ensures { λ r. ⌜ (r .found ≡ true → Named (namesOf (now (sheet .entry)) (tableOf (now (names .entry)) counts)) w (drop 1 (fields (now (line .entry)))) (r .statement)) ⌝ }
+    ensures { λ r. ⌜ Finds (Named (namesOf (now (sheet .entry)) (tableOf (now (names .entry)) counts)) w (drop 1 (fields (now (line .entry))))) r ⌝ }
 {
     if ends.len() != field_count(w) {
         return untold();
@@ -72,7 +72,7 @@ fn stated(
     ends: &[u16],
 ) -> StatementLine
     requires { ⌜ Tidy (now sheet) (tableOf (now names) counts) × Looked (now line) (now ends) ⌝ }
-    ensures { λ r. ⌜ (r .found ≡ true → Stated (namesOf (now (sheet .entry)) (tableOf (now (names .entry)) counts)) m (now (line .entry)) (r .statement)) ⌝ }
+    ensures { λ r. ⌜ Finds (Stated (namesOf (now (sheet .entry)) (tableOf (now (names .entry)) counts)) m (now (line .entry))) r ⌝ }
 {
     if m.rules != 0 {
         return untold();
@@ -89,7 +89,7 @@ fn stated(
     }
 }
 
-// The statement of a line, if it is told by its fields alone to be one with nothing wrong; of other lines nothing is said.
+// The statement of a line, if it is one with nothing wrong.
 pub fn statement_in(
     sheet: &[u8],
     names: &[u32],
@@ -100,7 +100,7 @@ pub fn statement_in(
     ends: &[u16],
 ) -> StatementLine
     requires { ⌜ Tidy (now sheet) (tableOf (now names) counts) × (good ≡ every lineByte (now line)) × (length (now line) ≤ lineLimit → Looked (now line) (now ends)) ⌝ }
-    ensures { λ r. ⌜ (r .found ≡ true → Plainly (namesOf (now (sheet .entry)) (tableOf (now (names .entry)) counts)) m (now (line .entry)) (r .statement)) ⌝ }
+    ensures { λ r. ⌜ Finds (Plainly (namesOf (now (sheet .entry)) (tableOf (now (names .entry)) counts)) m (now (line .entry))) r ⌝ }
 {
     if line.len() == 0 {
         return untold();

@@ -1,22 +1,19 @@
 ghost use mathlib.Core.Path.{_≡_};
 ghost use mathlib.Core.Bool.{false};
 ghost use Prim.Native.Nat.{_+_, _<_};
-ghost use lib.ListN.{length, drop, replicate};
+ghost use lib.ListN.{length, replicate};
 ghost use Rattle.text.specs.Split.{fields};
 ghost use Rattle.text.specs.own.Scan.{startBy};
 ghost use Rattle.store.specs.Cell.{Within, cellOf};
 ghost use Rattle.store.specs.Layout.{Fits, size, width};
 ghost use Rattle.line.specs.Fault.{begun, none, ruleLimit};
-ghost use Rattle.sheet.specs.Said.{Said, lineSaid, saying};
-ghost use Rattle.saying.specs.Read.{statementOf};
-ghost use Rattle.sheet.specs.own.Stands.{Adding, Begins, Came, Comes, Declaration, Standing, Stands, Taken, Takes, oneRule, oneStated};
-ghost use Rattle.field.specs.own.Table.{Noted, entryOf, hintAt, hintsFrom, namesOf, numberCount, placeCount, tableOf};
+ghost use Rattle.sheet.specs.own.Stands.{Adding, Begins, Came, Comes, Declaration, Standing, TakenOther, TakesOther, oneRule, oneStated};
+ghost use Rattle.field.specs.own.Table.{Noted, entryOf, hintAt, hintsFrom, numberCount, placeCount, tableOf};
 ghost use Rattle.field.specs.own.Line.{Looked};
 ghost use Rattle.field.specs.Words.{at as fieldOf};
 use crate::Kept;
 use crate::LineRead;
 use field::Form;
-use field::StatementWord;
 use field::Table;
 use line::Marks;
 use store::Statement;
@@ -35,23 +32,6 @@ fn add(words: &mut [u64], k: Kept, s: Statement) -> Kept
         rules: m.rules,
     };
     Kept { counts, marks }
-}
-
-// Takes a statement: adds it to the store.
-fn take_statement(
-    sheet: &[u8],
-    words: &mut [u64],
-    names: &[u32],
-    k: Kept,
-    line: &[u8],
-    ends: &[u16],
-    w: StatementWord,
-) -> Kept
-    requires { ⌜ ((x : Said) × Stands (now sheet) (tableOf (now names) (k .counts)) (k .marks) (now words) x) × Looked (now line) (now ends) × Within (k .counts) (cellOf (statementOf (namesOf (now sheet) (tableOf (now names) (k .counts))) w (drop 1 (fields (now line))))) ⌝ }
-    ensures { λ r. ⌜ Taken (now (sheet .entry)) (tableOf (now (names .entry)) (k .counts)) (k .marks) (now (words .entry)) (λ j x. saying j x (Form.Statement w) (drop 1 (fields (now (line .entry))))) (tableOf (now (names .entry)) (r .counts)) (r .marks) (now (words .exit)) ⌝ }
-{
-    let s = saying::statements::statement(sheet, names, k.counts, line, ends, 1, w);
-    add(words, k, s)
 }
 
 // Takes a rule: the store is made fresh by the first one, and there is one rule more.
@@ -78,9 +58,8 @@ fn declare(names: &mut [u32], from: usize, n: usize, start: usize, line: &[u8], 
     field::tables::note(names, from, n, place, text::scan::field(line, ends, 1));
 }
 
-// Takes a line that is not empty and has no fault, and starts at a place of the sheet.
+// Takes a line that is not empty and no statement, and has no fault; it starts at a place of a sheet.
 fn take_form(
-    sheet: &[u8],
     words: &mut [u64],
     names: &mut [u32],
     k: Kept,
@@ -88,8 +67,8 @@ fn take_form(
     line: &[u8],
     ends: &[u16],
 ) -> Kept
-    requires { ⌜ Takes (now sheet) (tableOf (now names) (k .counts)) (k .marks) (now words) start (now line) × Looked (now line) (now ends) × (none (now line) ≡ false) ⌝ }
-    ensures { λ r. ⌜ Taken (now (sheet .entry)) (tableOf (now (names .entry)) (k .counts)) (k .marks) (now (words .entry)) (λ j x. lineSaid j x (now (line .entry))) (tableOf (now (names .exit)) (r .counts)) (r .marks) (now (words .exit)) ⌝ }
+    requires { ⌜ TakesOther (tableOf (now names) (k .counts)) (k .marks) (now words) start (now line) (now ends) × (none (now line) ≡ false) ⌝ }
+    ensures { λ r. ⌜ TakenOther (tableOf (now (names .entry)) (k .counts)) (k .marks) (now (words .entry)) start (now (line .entry)) (tableOf (now (names .exit)) (r .counts)) (r .marks) (now (words .exit)) ⌝ }
 {
     let f = field::words::form(line, ends);
     let mut counts = k.counts;
@@ -110,16 +89,15 @@ fn take_form(
             counts.items += 1;
             Kept { counts, marks }
         }
-        Form::Statement(w) => take_statement(sheet, words, names, k, line, ends, w),
+        Form::Statement(_) => k,
         Form::Rule(_) => take_rule(words, k),
         Form::Bare => k,
         Form::Unknown => k,
     }
 }
 
-// Takes a line without a fault, which starts at a place of the sheet.
+// Takes a line without a fault that is no statement; it starts at a place of a sheet.
 fn take(
-    sheet: &[u8],
     words: &mut [u64],
     names: &mut [u32],
     k: Kept,
@@ -127,13 +105,13 @@ fn take(
     line: &[u8],
     ends: &[u16],
 ) -> Kept
-    requires { ⌜ Takes (now sheet) (tableOf (now names) (k .counts)) (k .marks) (now words) start (now line) × Looked (now line) (now ends) ⌝ }
-    ensures { λ r. ⌜ Taken (now (sheet .entry)) (tableOf (now (names .entry)) (k .counts)) (k .marks) (now (words .entry)) (λ j x. lineSaid j x (now (line .entry))) (tableOf (now (names .exit)) (r .counts)) (r .marks) (now (words .exit)) ⌝ }
+    requires { ⌜ TakesOther (tableOf (now names) (k .counts)) (k .marks) (now words) start (now line) (now ends) ⌝ }
+    ensures { λ r. ⌜ TakenOther (tableOf (now (names .entry)) (k .counts)) (k .marks) (now (words .entry)) start (now (line .entry)) (tableOf (now (names .exit)) (r .counts)) (r .marks) (now (words .exit)) ⌝ }
 {
     if line.len() == 0 {
         return k;
     }
-    take_form(sheet, words, names, k, start, line, ends)
+    take_form(words, names, k, start, line, ends)
 }
 
 // Reads a line, which starts at a place of the sheet: takes it, if it has no fault.
@@ -160,7 +138,7 @@ pub fn read(
     }
     let why = line::lines::line_fault(sheet, names, counts, marks, line, good, ends);
     if why == 0 {
-        let kept = take(sheet, words, names, k, start, line, ends);
+        let kept = take(words, names, k, start, line, ends);
         return LineRead { why, kept };
     }
     LineRead { why, kept: k }

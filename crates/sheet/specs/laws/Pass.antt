@@ -16,6 +16,7 @@ use Rattle.field.specs.declared.Form.{Form}
 use Rattle.field.specs.declared.Form.the-variants as form
 use Rattle.sheet.specs.declared.RuleLine.{RuleLine}
 use Rattle.field.specs.declared.RuleWord.{RuleWord}
+use Rattle.field.specs.declared.StatementWord.{StatementWord}
 use Rattle.line.specs.Fault.{headerFault, lineFault, lineLimit, none, sheetLimit}
 use Rattle.field.specs.Names.{Names}
 use Rattle.sheet.specs.declared.Start.{Start}
@@ -70,7 +71,7 @@ accepted-start sheet x e = let a = accepted-lines sheet _ _ x (sym (parts-all 10
 
 -- ---- one line
 
--- an empty line is no rule
+-- an empty line is no rule and no statement
 empty-form : formOf (fields []) ≡ form.Unknown
 unfolding split lineForm same
 empty-form = refl
@@ -108,6 +109,11 @@ said-rules k past n s l r q e = go (none l)
 pub rule-some : (l : List ℕ) (w : RuleWord) → formOf (fields l) ≡ form.Rule w → none l ≡ false
 rule-some [] w e = let z : _≡_ {A = Form} form.Unknown (form.Rule w) = sym empty-form ∙ e in cc
 rule-some (b ∷ l) w e = refl
+
+-- nor is that of a statement
+pub statement-some : (l : List ℕ) (w : StatementWord) → formOf (fields l) ≡ form.Statement w → none l ≡ false
+statement-some [] w e = let z : _≡_ {A = Form} form.Unknown (form.Statement w) = sym empty-form ∙ e in cc
+statement-some (b ∷ l) w e = refl
 
 pub rule-said : (k : ℕ) (s : Said) (l : List ℕ) (w : RuleWord) → formOf (fields l) ≡ form.Rule w → lineSaid k s l ≡ saying k s (form.Rule w) (bodyOf (fields l))
 unfolding lineSaid

@@ -1,10 +1,10 @@
--- A line whose names are all declared, of which there are as many as there must be, is a statement with nothing wrong. Assumes nothing.
-use mathlib.Core.Path.{_≡_, refl, sym, _∙_, subst}
-use mathlib.Core.Bool.{Bool, true, false, not}
+-- The lines whose names are all declared, of which there are as many as there must be, are the statements with nothing wrong. Assumes nothing.
+use mathlib.Core.Path.{_≡_, refl, sym, ap, _∙_, subst}
+use mathlib.Core.Bool.{Bool, true, false, not, true≢false}
 use mathlib.Core.List.{List, [], _∷_}
 use Prim.Native.Nat.{ℕ, _+_, _≤_, _<_}
 use native.Mathlib.Omega.{arith}
-use borrow.Author.Tests.{le-ltb, lt-ltb}
+use borrow.Author.Tests.{le-ltb, lt-ltb, ltb-false}
 use lib.ListN.{drop, length, length-drop}
 use Rattle.text.specs.Bytes.{every, place}
 use Rattle.text.specs.Name.{isName, lineByte}
@@ -14,6 +14,7 @@ use Rattle.store.specs.declared.Statement.{Statement}
 use Rattle.store.specs.Cell.{Within, cellOf}
 use Rattle.field.specs.declared.Due.{Due}
 use Rattle.field.specs.declared.Due.the-variants as due
+use Rattle.field.specs.declared.Form.{Form}
 use Rattle.field.specs.declared.Form.the-variants as form
 use Rattle.field.specs.declared.StatementWord.{StatementWord}
 use Rattle.field.specs.declared.StatementWord.the-variants as statement
@@ -21,18 +22,26 @@ use Rattle.field.specs.Due.{dues, fits, isExpr, statementLineup}
 use Rattle.field.specs.Names.{Names, countsOf, fieldFault, fieldFaults, nameFault, nodesIn, plain}
 use Rattle.field.specs.Words.{at, Field, bodyOf, formOf}
 use Rattle.line.specs.declared.Marks.{Marks}
-use Rattle.line.specs.Fault.{begun, fieldsFault, formFault, lineFault, lineLimit}
+use Rattle.line.specs.Fault.{begun, fieldsFault, formFault, lineFault, lineLimit, none}
 use Rattle.saying.specs.Read.{statementOf}
 use Rattle.field.specs.own.Table.{Listed, Proper, Table, Tidy, conceptName, namesOf}
 use Rattle.field.specs.own.Line.{Looked}
+use Rattle.sheet.specs.declared.StatementLine.{StatementLine}
 use Rattle.sheet.specs.Said.{Said, lineSaid}
-use Rattle.sheet.specs.own.Quick.{Named, Plainly, Stated}
-use Rattle.sheet.specs.own.Stands.{Adding, Came, Comes, Stands, Takes}
+use Rattle.sheet.specs.own.Quick.{Finds, Named, Plainly, Stated}
+use Rattle.sheet.specs.own.Stands.{Adding, Came, Comes, Stands, Takes, TakesOther}
 use Rattle.field.specs.laws.Names.{lower-none}
 use Rattle.field.specs.laws.Right.{concept-name-good, listed-good}
-use Rattle.line.specs.laws.Fault.{form-fields, known-body, line-form}
+use Rattle.line.specs.laws.Accepted.{Accepted, line-accepted}
+use Rattle.line.specs.laws.Fault.{form-fields, known-body, line-bytes, line-form, line-long}
+use Rattle.saying.specs.laws.Stated.{statement-within}
 use Rattle.sheet.specs.laws.Stands.{counts-of, stands-statement}
-use Rattle.sheet.specs.laws.Taken.{some-line, statement-inside, statement-taken}
+use Rattle.sheet.specs.laws.Pass.{statement-some}
+use Rattle.sheet.specs.laws.Taken.{right-short, statement-taken}
+
+some-long : (l : List ℕ) → none l ≡ false → length l ≡ 0 → ⊥
+some-long [] e h = true≢false e
+some-long (b ∷ l) e h = absurd (omega arith)
 
 -- ---- fields with nothing wrong
 
@@ -115,8 +124,100 @@ module _ (n : Names) where
     form-right : formFault n m (formOf (fields line)) (bodyOf (fields line)) ≡ 0
     form-right = sym (form-fields n m (formOf (fields line)) (bodyOf (fields line)) (rw (d .form)) (rw (d .form, d .early) (le-ltb 0 0 (omega arith)))) ∙ fields-right
 
-    pub plainly : (length line ≡ 0 → ⊥) → length line ≤ lineLimit → not (every lineByte line) ≡ false → Plainly n m line s
-    plainly h g e = record { some = some-line line h; right = sym (line-form n m line h g e) ∙ form-right; stated = d }
+    pub plainly : length line ≤ lineLimit → not (every lineByte line) ≡ false → Plainly n m line s
+    plainly g e =
+        let some = statement-some line (d .word) (d .form) in
+        record { some = some; right = sym (line-form n m line (some-long line some) g e) ∙ form-right; stated = d }
+
+-- ---- nothing is found
+
+-- where none is as P says, none is to be found
+pub finds-none : {P : Statement → Type 0} {r : StatementLine} → r .found ≡ false → ((z : Statement) → ¬ P z) → Finds P r
+finds-none u h = record { holds = λ e. absurd (true≢false (sym e ∙ u)); fails = λ e. h }
+
+-- the form is that of a statement
+abbrev pub states : Form → Bool
+states form.Concept = false
+states form.Role = false
+states form.Item = false
+states (form.Statement w) = true
+states (form.Rule w) = false
+states form.Bare = false
+states form.Unknown = false
+
+module _ {n : Names} {m : Marks} {line : List ℕ} where
+  -- a line of another form says no statement
+  pub other-form : {f : Form} {r : StatementLine} → r .found ≡ false → f ≡ formOf (fields line) → states f ≡ false → Finds (Stated n m line) r
+  other-form u is h = finds-none u (λ z d. true≢false (sym (ap states (is ∙ d .form)) ∙ h))
+
+  -- an empty line is none
+  pub plain-some : {z : Statement} → length line ≡ 0 → ¬ Plainly n m line z
+  plain-some h p = some-long line (p .some) h
+
+  -- nor is one that is too long, or has a byte that may not stand in it
+  pub plain-long : {z : Statement} → lineLimit < length line → ¬ Plainly n m line z
+  plain-long g p = omega (arith, line-long n m line (some-long line (p .some)) g, p .right)
+
+  pub plain-bytes : {z : Statement} → length line ≤ lineLimit → not (every lineByte line) ≡ true → ¬ Plainly n m line z
+  plain-bytes g e p = omega (arith, line-bytes n m line (some-long line (p .some)) g e, p .right)
+
+  -- a line says the statement of its word
+  pub stated-word : {z : Statement} {w : StatementWord} → formOf (fields line) ≡ form.Statement w → Stated n m line z → Named n w (drop 1 (fields line)) z
+  stated-word {z} {w} e d =
+      let f : form.Statement (d .word) ≡ form.Statement w = sym (d .form) ∙ e in
+      let v : d .word ≡ w = cc in
+      subst (λ (u : StatementWord). Named n u (drop 1 (fields line)) z) v (d .named)
+
+-- ---- every statement with nothing wrong is found
+
+fit-none : (fs : List Field) → fits [] fs ≡ true → length fs ≡ 0
+unfolding fits
+fit-none [] e = refl
+fit-none (f ∷ fs) e = absurd (true≢false (sym e))
+
+fit-more : (d : Due) (ds : List Due) (k : ℕ) (fs : List Field) → isExpr d ≡ false → ((gs : List Field) → fits ds gs ≡ true → length gs ≡ k) → fits (d ∷ ds) fs ≡ true → length fs ≡ k + 1
+unfolding fits
+fit-more d ds k [] e h q = absurd (true≢false (sym q))
+fit-more d ds k (f ∷ fs) e h q = omega (arith, h fs (rw e at q))
+
+fit-two : (a b : Due) (fs : List Field) → isExpr a ≡ false → isExpr b ≡ false → fits (a ∷ b ∷ []) fs ≡ true → length fs ≡ 2
+fit-two a b fs e g = fit-more a (b ∷ []) 1 fs e (λ gs. fit-more b [] 0 gs g fit-none)
+
+-- the fields of a statement are as many as its word wants
+statement-count : (w : StatementWord) (fs : List Field) → fits (dues (statementLineup w)) fs ≡ true → length fs ≡ statementLineup w .count
+statement-count statement.In fs = fit-two due.Item due.Concept fs refl refl
+statement-count statement.Rel fs = fit-more due.Role (due.Item ∷ due.Item ∷ []) 2 fs refl (λ gs. fit-two due.Item due.Item gs refl refl)
+statement-count statement.Same fs = fit-two due.Item due.Item fs refl refl
+statement-count statement.Under fs = fit-two due.Concept due.Concept fs refl refl
+statement-count statement.RoleUnder fs = fit-two due.RoleUse due.RoleUse fs refl refl
+
+-- the line of a statement without a fault is a statement with nothing wrong
+right-plainly : (n : Names) (m : Marks) (line : List ℕ) (w : StatementWord) → lineFault n m line ≡ 0 → formOf (fields line) ≡ form.Statement w → Plainly n m line (statementOf n w (drop 1 (fields line)))
+right-plainly n m line w z e =
+    let some = statement-some line w e in
+    let a : Accepted n m (form.Statement w) (bodyOf (fields line)) = rw e at (line-accepted n m line some z .1) in
+    let body : drop 1 (fields line) ≡ bodyOf (fields line) = rw e at (known-body (fields line) (rw e)) in
+    let early : m .rules ≡ 0 = omega (arith, ltb-false 0 (m .rules) (a .started)) in
+    let named : Named n w (drop 1 (fields line)) (statementOf n w (drop 1 (fields line))) = rw body (record { count = statement-count w (bodyOf (fields line)) (a .right .fit); is = refl; within = statement-within n w (bodyOf (fields line)) (a .right) }) in
+    record { some = some; right = z; stated = record { word = w; form = e; early = early; named = named } }
+
+-- ---- the names of a line's fields
+
+count-some : (w : StatementWord) → 1 ≤ statementLineup w .count
+count-some statement.In = omega arith
+count-some statement.Rel = omega arith
+count-some statement.Same = omega arith
+count-some statement.Under = omega arith
+count-some statement.RoleUnder = omega arith
+
+-- another number of fields
+pub other-count : {n : Names} {line ends : List ℕ} (w : StatementWord) → Looked line ends → (length ends ≡ statementLineup w .count + 1 → ⊥) → (z : Statement) → ¬ Named n w (drop 1 (fields line)) z
+other-count {line = line} w v h z d = h (omega (arith, length-drop 1 (fields line), v .count, d .count, count-some w))
+
+-- the statement of a line's fields, with names that are all declared
+pub named-within : {sheet : List ℕ} {t : Table} {fs : List Field} {y z : Statement} → Tidy sheet t → (w : StatementWord) → y ≡ statementOf (namesOf sheet t) w fs → Named (namesOf sheet t) w fs z → Within (t .counts) (cellOf y)
+named-within {sheet} {t} {y = y} q w is d =
+    subst (λ (n : Counts). Within n (cellOf y)) (counts-of sheet t q) (subst (λ (u : Statement). Within (countsOf (namesOf sheet t)) (cellOf u)) (d .is ∙ sym is) (d .within))
 
 -- as many fields as there must be, with names that are all declared
 pub all-named : {sheet : List ℕ} {t : Table} {line ends : List ℕ} {z : Statement} → Tidy sheet t → (w : StatementWord) → Looked line ends → length ends ≡ statementLineup w .count + 1
@@ -131,10 +232,15 @@ module _ {sheet : List ℕ} {t : Table} {m : Marks} {s : List ℕ} {start : ℕ}
   pub comes-takes : lineFault (namesOf sheet t) m line ≡ 0 → Takes sheet t m s start line
   comes-takes z = record { said = c .said; stands = c .stands; right = z; is = c .is; inside = c .inside; short = c .short }
 
+  -- and where no statement was found, it is none
+  pub comes-other : {r : StatementLine} → lineFault (namesOf sheet t) m line ≡ 0 → Finds (Plainly (namesOf sheet t) m line) r → r .found ≡ false → TakesOther t m s start line ends
+  comes-other z q u =
+      record { sheet = sheet; takes = comes-takes z; looked = c .looked (right-short (namesOf sheet t) m line z); other = λ w f. q .fails u _ (right-plainly (namesOf sheet t) m line w z f) }
+
   -- a statement with nothing wrong has its numbers below their counts, and is taken where it is added
   module _ (z : Statement) (p : Plainly (namesOf sheet t) m line z) where
     pub plain-within : Within (t .counts) (cellOf z)
-    plain-within = rw (p .stated .named .is) (statement-inside (comes-takes (p .right)) (p .some) _ (sym (p .stated .form)) (p .stated .word) refl)
+    plain-within = named-within (c .stands .tidy) (p .stated .word) (p .stated .named .is) (p .stated .named)
 
     pub plain-came : {s′ : List ℕ} → Adding (begun m) (t .counts) z s s′ → Came sheet t m s line 0 t (record { stated = true; rules = m .rules }) s′
     plain-came {s′} a = record { why = sym (p .right); taken = λ e k x st. more k x st; left = λ q. absurd (q refl) }

@@ -1,5 +1,5 @@
 -- Laws of taking a line without a fault. Assumes nothing.
-use mathlib.Core.Path.{_≡_, refl, sym, ap, _∙_, subst}
+use mathlib.Core.Path.{_≡_, refl, sym, ap, _∙_}
 use mathlib.Core.Bool.{true, false, true≢false}
 use mathlib.Core.List.{List, [], _∷_}
 use Prim.Native.Nat.{ℕ, _+_, _≤_, _<_}
@@ -13,9 +13,7 @@ use Rattle.text.specs.own.Scan.{startBy}
 use Rattle.text.specs.laws.Ends.{field-length, field-text, line-inside, room-between}
 use Rattle.text.specs.laws.Name.{name-bounds}
 use Rattle.text.specs.laws.Split.{end-le}
-use Rattle.store.specs.Cell.{Within, cellOf}
 use Rattle.store.specs.Layout.{conceptLimit, itemLimit, roleLimit, width}
-use Rattle.store.specs.declared.Counts.{Counts}
 use Rattle.field.specs.declared.Due.{Due}
 use Rattle.field.specs.declared.Due.the-variants as due
 use Rattle.field.specs.declared.Form.{Form}
@@ -28,18 +26,16 @@ use Rattle.line.specs.Fault.{begun, lineFault, lineLimit, none, ruleLimit}
 use Rattle.field.specs.Names.{Names, fieldFault}
 use Rattle.field.specs.Words.{at, Field, bodyOf, formOf}
 use Rattle.sheet.specs.Said.{Said, lineSaid, saying}
-use Rattle.saying.specs.Read.{statementOf}
 use Rattle.sheet.specs.own.Stands.{Begins, Declaration, Stands, Takes}
 use Rattle.field.specs.own.Line.{Looked, wordsOf}
 use Rattle.field.specs.own.Table.{Noted, Table, Tidy, conceptName, entryOf, hintAt, itemsFrom, nameAt, namesOf, placeCount, rolesFrom, tableOf}
 use Rattle.line.specs.laws.Accepted.{Accepted, line-accepted}
 use Rattle.field.specs.laws.Declared.{declared-concept, declared-item, declared-role, moreConcepts, moreItems, moreRoles}
 use Rattle.field.specs.laws.Right.{New, concept-name-good, concept-new, item-new, right-first, role-new}
-use Rattle.saying.specs.laws.Stated.{statement-within}
 use Rattle.field.specs.laws.Entry.{entry-name}
 use Rattle.field.specs.laws.Table.{entered-length}
 use Rattle.field.specs.laws.Words.{body-words}
-use Rattle.sheet.specs.laws.Stands.{counts-of, stands-concept, stands-item, stands-role, stands-rule}
+use Rattle.sheet.specs.laws.Stands.{stands-concept, stands-item, stands-role, stands-rule}
 
 -- a line without a fault is not too long
 pub right-short : (n : Names) (m : Marks) (l : List ℕ) → lineFault n m l ≡ 0 → length l ≤ lineLimit
@@ -168,12 +164,6 @@ module _ {sheet : List ℕ} {t : Table} {m : Marks} {s : List ℕ} {start : ℕ}
 
   statement-body : (w : StatementWord) → f ≡ form.Statement w → drop 1 (fields line) ≡ bodyOf (fields line)
   statement-body w told = rw told at after-words
-
-  -- the numbers of a statement
-  pub statement-inside : (w : StatementWord) → f ≡ form.Statement w → Within (t .counts) (cellOf (statementOf (namesOf sheet t) w (drop 1 (fields line))))
-  statement-inside w told =
-      subst (λ (n : Counts). Within n (cellOf (statementOf (namesOf sheet t) w (drop 1 (fields line))))) (counts-of sheet t tidy)
-      (statement-within (namesOf sheet t) w (drop 1 (fields line)) (rw (statement-body w told) (rw told at (accepted .right))))
 
   -- a rule for which there is room
   pub rule-room : (w : RuleWord) → f ≡ form.Rule w → m .rules < ruleLimit

@@ -1,6 +1,6 @@
--- Lines that are told to be statements with nothing wrong by their fields alone.
+-- Lines that are statements with nothing wrong, as their fields alone tell.
 use mathlib.Core.Path.{_≡_}
-use mathlib.Core.Bool.{false}
+use mathlib.Core.Bool.{true, false}
 use mathlib.Core.List.{List}
 use Prim.Native.Nat.{ℕ}
 use lib.ListN.{drop, length}
@@ -15,6 +15,12 @@ use Rattle.field.specs.Words.{Field, formOf}
 use Rattle.line.specs.declared.Marks.{Marks}
 use Rattle.line.specs.Fault.{lineFault, none}
 use Rattle.saying.specs.Read.{statementOf}
+use Rattle.sheet.specs.declared.StatementLine.{StatementLine}
+
+-- the statement that was found is as P says; where none was found, none is
+pub record Finds (P : Statement → Type 0) (r : StatementLine) : Type 0 where
+  pub holds : r .found ≡ true → P (r .statement)
+  pub fails : r .found ≡ false → (z : Statement) → ¬ P z
 
 -- s is the statement of as many fields as its word wants, and all its names are declared
 pub record Named (n : Names) (w : StatementWord) (fs : List Field) (s : Statement) : Type 0 where

@@ -23,7 +23,9 @@ use Rattle.line.specs.Fault.{begun, lineFault, lineLimit, ruleLimit, sheetLimit
 use Rattle.sheet.specs.Promise.{Leaves, Stopped}
 use Rattle.sheet.specs.Said.{Outcome, Said, lineSaid, marksOf, outcome, outcomeFrom}
 use Rattle.sheet.specs.Said.Outcome.{accepted, refused}
-use Rattle.field.specs.Words.{at}
+use Rattle.field.specs.declared.Form.the-variants as form
+use Rattle.field.specs.declared.StatementWord.{StatementWord}
+use Rattle.field.specs.Words.{at, formOf}
 use Rattle.field.specs.own.Line.{Looked}
 use Rattle.field.specs.own.Table.{Table, Tidy, namesOf, tableOf}
 
@@ -62,6 +64,17 @@ pub record Takes (sheet : List ℕ) (t : Table) (m : Marks) (s : List ℕ) (star
 -- after the line, what is kept, t′, m′ and s′, stands for what was said with it
 abbrev pub Taken : List ℕ → Table → Marks → List ℕ → (ℕ → Said → Said) → Table → Marks → List ℕ → Type 0
 Taken sheet t m s more t′ m′ s′ = (k : ℕ) (x : Said) → Stands sheet t m s x → Stands sheet t′ m′ s′ (more k x)
+
+-- a line that is no statement is to be taken, whatever sheet it is of, with the ends of its fields
+pub record TakesOther (t : Table) (m : Marks) (s : List ℕ) (start : ℕ) (line ends : List ℕ) : Type 0 where
+  pub sheet : List ℕ
+  pub takes : Takes sheet t m s start line
+  pub looked : Looked line ends
+  pub other : (w : StatementWord) → ¬ (formOf (fields line) ≡ form.Statement w)
+
+-- it was taken, of every such sheet
+abbrev pub TakenOther : Table → Marks → List ℕ → ℕ → List ℕ → Table → Marks → List ℕ → Type 0
+TakenOther t m s start line t′ m′ s′ = (sheet : List ℕ) → Takes sheet t m s start line → Taken sheet t m s (λ k x. lineSaid k x line) t′ m′ s′
 
 -- a line comes at a place of the sheet, with the ends of its fields and whether its bytes are good: what is kept stands for what was said before it
 pub record Comes (sheet : List ℕ) (t : Table) (m : Marks) (s : List ℕ) (start : ℕ) (line : List ℕ) (good : Bool) (ends : List ℕ) : Type 0 where

@@ -7,8 +7,7 @@ use native.Mathlib.Omega.{arith}
 use lib.ListN.{length, drop, length-append}
 use Rattle.text.specs.own.Scan.{lineAt}
 use Rattle.text.specs.own.Split.{endOf, partsFrom}
-use Rattle.text.specs.Bytes.{place, same}
-use Rattle.text.specs.Split.{fields, split}
+use Rattle.text.specs.Split.{fields}
 use Rattle.text.specs.laws.Split.{end-ge, end-le, parts-next, parts-none}
 use Rattle.store.specs.Cell.{Within, cellOf}
 use Rattle.field.specs.declared.Form.{Form}
@@ -21,23 +20,18 @@ use Rattle.sheet.specs.Said.{Outcome, Said, SheetStatement, lineSaid, marksOf, 
 use Rattle.saying.specs.Read.{statementOf}
 use Rattle.sheet.specs.Said.Outcome.{accepted}
 use Rattle.field.specs.own.Table.{Table, namesOf}
-use Rattle.field.specs.Words.{Field, bodyOf, formOf, lineForm}
+use Rattle.field.specs.Words.{Field, bodyOf, formOf}
 use Rattle.field.specs.laws.Right.{Right}
 use Rattle.field.specs.laws.Words.{body-words}
 use Rattle.line.specs.laws.Accepted.{line-accepted}
 use Rattle.saying.specs.laws.Stated.{statement-within}
 use Rattle.sheet.specs.laws.Taken.{right-short}
-use Rattle.sheet.specs.laws.Pass.{accepted-start, accepted-step, saidOf}
+use Rattle.sheet.specs.laws.Pass.{accepted-start, accepted-step, saidOf, statement-some}
 use Rattle.sheet.specs.laws.Settled.{none-last, sheet-settled}
 use Rattle.why.specs.declared.StatementLine.{StatementLine}
 use Rattle.why.specs.own.Stating.{LineStatement, Next, NextStatement, Opened, Passing, Paused, foundStatement}
 
 -- ---- one line
-
--- an empty line is no statement
-empty-form : formOf (fields []) ≡ form.Unknown
-unfolding split lineForm same place
-empty-form = refl
 
 -- a line that is no statement leaves the statements
 saying-statements : (k past : ℕ) (n : Names) (s : Said) (fs : List Field) (r : StatementLine) (f : Form) → LineStatement n f fs k past r → r .found ≡ false → saying k s f fs .statements ≡ s .statements
@@ -67,11 +61,6 @@ said-statements k past n s l r q e = go (none l)
     go : (t : Bool) → cond t s (saying k s (formOf (fields l)) (bodyOf (fields l))) .statements ≡ s .statements
     go true = refl
     go false = saying-statements k past n s (bodyOf (fields l)) r (formOf (fields l)) q e
-
--- the line of a statement is not empty
-statement-some : (l : List ℕ) (w : StatementWord) → formOf (fields l) ≡ form.Statement w → none l ≡ false
-statement-some [] w e = let z : _≡_ {A = Form} form.Unknown (form.Statement w) = sym empty-form ∙ e in cc
-statement-some (b ∷ l) w e = refl
 
 statement-said : (k : ℕ) (s : Said) (l : List ℕ) (w : StatementWord) → formOf (fields l) ≡ form.Statement w → lineSaid k s l ≡ saying k s (form.Statement w) (bodyOf (fields l))
 unfolding lineSaid

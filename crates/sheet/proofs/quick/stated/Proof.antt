@@ -1,6 +1,7 @@
 -- `sheet::quick::stated` meets its contract. Assumes nothing.
-use mathlib.Core.Path.{sym, _∙_}
-use mathlib.Core.Bool.{true≢false}
+use mathlib.Core.Path.{ap, sym, _∙_}
+use native.Mathlib.Omega.{arith}
+use Rattle.sheet.specs.laws.Quick.{finds-none, other-form, stated-word, states}
 use borrow.Author.Needs.{needs}
 use Rattle.sheet.proofs.quick.stated.Statement.{statement}
 use Rattle.sheet.proofs.quick.stated.Tie as tie
@@ -9,7 +10,7 @@ untold-requires : tie.Need-untold-requires
 untold-requires c κs = search needs
 
 returns : tie.Need-returns
-returns c = λ e. absurd (true≢false (sym e ∙ c .untold .ensures))
+returns c = finds-none (c .untold .ensures) (λ z d. omega (arith, d .early, c .before .if1 .taken))
 
 form-requires : tie.Need-form-requires
 form-requires c κs = search needs
@@ -57,25 +58,27 @@ untold-requires-7 : tie.Need-untold-requires-7
 untold-requires-7 c κs = search needs
 
 returns-2 : tie.Need-returns-2
-returns-2 c = λ e. absurd (true≢false (sym e ∙ c .untold2 .ensures))
+returns-2 c = other-form (c .untold2 .ensures) (c .before .before .before .form .ensures) (ap states (c .before .enum-told .given .1))
 
 returns-3 : tie.Need-returns-3
-returns-3 c = λ e. absurd (true≢false (sym e ∙ c .untold3 .ensures))
+returns-3 c = other-form (c .untold3 .ensures) (c .before .before .before .form .ensures) (ap states (c .before .enum-told2 .given .1))
 
 returns-4 : tie.Need-returns-4
-returns-4 c = λ e. absurd (true≢false (sym e ∙ c .untold4 .ensures))
+returns-4 c = other-form (c .untold4 .ensures) (c .before .before .before .form .ensures) (ap states (c .before .enum-told3 .given .1))
 
 returns-5 : tie.Need-returns-5
-returns-5 c = λ e. record { word = _; form = sym (c .before .before .before .before .form .ensures) ∙ c .before .before .f .given .1; early = c .before .before .before .before .before .if1 .left; named = c .named .ensures e }
+returns-5 c =
+    let e = sym (c .before .before .before .before .form .ensures) ∙ c .before .before .f .given .1 in
+    record { holds = λ q. record { word = _; form = e; early = c .before .before .before .before .before .if1 .left; named = c .named .ensures .holds q }; fails = λ q z d. c .named .ensures .fails q z (stated-word e d) }
 
 returns-6 : tie.Need-returns-6
-returns-6 c = λ e. absurd (true≢false (sym e ∙ c .untold5 .ensures))
+returns-6 c = other-form (c .untold5 .ensures) (c .before .before .before .form .ensures) (ap states (c .before .enum-told4 .given .1))
 
 returns-7 : tie.Need-returns-7
-returns-7 c = λ e. absurd (true≢false (sym e ∙ c .untold6 .ensures))
+returns-7 c = other-form (c .untold6 .ensures) (c .before .before .before .form .ensures) (ap states (c .before .enum-told5 .given .1))
 
 returns-8 : tie.Need-returns-8
-returns-8 c = λ e. absurd (true≢false (sym e ∙ c .untold7 .ensures))
+returns-8 c = other-form (c .untold7 .ensures) (c .before .before .before .form .ensures) (ap states (c .before .enum-told6 .given .1))
 
 pub stated-spec : {M : Type 1} → statement M
 stated-spec =

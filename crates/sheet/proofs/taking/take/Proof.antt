@@ -5,10 +5,10 @@ use Rattle.sheet.proofs.taking.take.Statement.{statement}
 use Rattle.sheet.proofs.taking.take.Tie as tie
 
 returns : tie.Need-returns
-returns c = λ k x st. rw (said-empty k x _ (c .if1 .taken)) st
+returns c = λ sheet tk k x st. rw (said-empty k x _ (c .if1 .taken)) st
 
 take-form-requires : tie.Need-take-form-requires
-take-form-requires c κs = (c .before .before .before .before .before .before .before .before .pre .0, c .before .before .before .before .before .before .before .before .pre .1, some-line (c .before .before .before .before .before .before .before .before .args .line .now) (c .before .before .if1 .left))
+take-form-requires c κs = (c .before .before .before .before .before .before .before .pre, some-line (c .before .before .before .before .before .before .before .args .line .now) (c .before .before .if1 .left))
 
 same-length : tie.Need-same-length
 same-length c = search needs
