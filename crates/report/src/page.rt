@@ -1,6 +1,7 @@
 // The whole text of a sheet.
 ghost use Rattle.field.specs.own.Table.{tableOf};
-ghost use Rattle.sheet.specs.own.Pass.{Judges, Since};
+ghost use Rattle.sheet.specs.own.Pass.{Judges};
+ghost use Rattle.sheet.specs.own.Stands.{Since};
 ghost use Rattle.report.specs.own.Lines.{Filled, JudgedAll};
 ghost use Rattle.report.specs.Promise.{Pages, PagesIn};
 use crate::Tally;

@@ -2,7 +2,8 @@
 ghost use mathlib.Core.Path.{_≡_};
 ghost use lib.ListN.{length};
 ghost use Rattle.field.specs.own.Table.{numberCount, tableOf};
-ghost use Rattle.sheet.specs.own.Pass.{Judges, Since, Totalled, Wholly, countedIn};
+ghost use Rattle.sheet.specs.own.Pass.{Judges, Totalled, Wholly, countedIn};
+ghost use Rattle.sheet.specs.own.Stands.{Since};
 use crate::Reading;
 use crate::Start;
 use crate::Whole;

@@ -21,14 +21,14 @@ use Rattle.line.specs.declared.Marks.{Marks}
 use Rattle.sheet.specs.declared.Reading.the-variants as reading
 use Rattle.sheet.specs.declared.RuleLine.{RuleLine}
 use Rattle.field.specs.Names.{countsOf}
-use Rattle.sheet.specs.own.Pass.{Counted, Judges, Next, NextRule, Opened, Passing, Paused, Since, Totalled, Wholly, countedIn, foundRule}
+use Rattle.sheet.specs.own.Pass.{Counted, Judges, Next, NextRule, Opened, Passing, Paused, Totalled, Wholly, countedIn, foundRule}
 use Rattle.sheet.specs.Promise.{FindingsFrom, FindingsIn, Held, Reads}
 use Rattle.sheet.specs.Promise.FindingsFrom.{none, more}
 use Rattle.sheet.specs.Promise.Reads.{wrong-size, refused as refusedRead, accepted as acceptedRead}
 use Rattle.sheet.specs.Said.{Outcome, Said, SheetRule, outcome}
 use Rattle.sheet.specs.Said.Outcome.{accepted, refused}
 use Rattle.sheet.specs.declared.Start.{Start}
-use Rattle.sheet.specs.own.Stands.{Opens, keptTable}
+use Rattle.sheet.specs.own.Stands.{Opens, Since, keptTable}
 use Rattle.field.specs.own.Table.{Table, Tidy, namesOf, tableOf}
 use Rattle.rule.specs.laws.Few.{few-findings}
 use Rattle.sheet.specs.laws.Pass.{not-both, passing-rest, passing-since, saidOf}

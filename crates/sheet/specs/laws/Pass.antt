@@ -20,7 +20,8 @@ use Rattle.field.specs.declared.StatementWord.{StatementWord}
 use Rattle.line.specs.Fault.{headerFault, lineFault, lineLimit, none, sheetLimit}
 use Rattle.field.specs.Names.{Names}
 use Rattle.sheet.specs.declared.Start.{Start}
-use Rattle.sheet.specs.own.Pass.{LineRule, Passing, RuleIfReady, Since, foundRule}
+use Rattle.sheet.specs.own.Pass.{LineRule, Passing, RuleIfReady, foundRule}
+use Rattle.sheet.specs.own.Stands.{Since}
 use Rattle.saying.specs.Read.{ruleOf}
 use Rattle.sheet.specs.Said.{Outcome, Said, SheetRule, lineSaid, marksOf, nothing, outcome, outcomeFrom, outcomeOf, saying}
 use Rattle.sheet.specs.Said.Outcome.{accepted, refused}

@@ -14,7 +14,6 @@ use Rattle.field.specs.declared.Form.{Form}
 use Rattle.field.specs.declared.Form.the-variants as form
 use Rattle.sheet.specs.declared.RuleLine.{RuleLine}
 use Rattle.field.specs.declared.RuleWord.{RuleWord}
-use Rattle.sheet.specs.declared.Start.{Start}
 use Rattle.sheet.specs.declared.Whole.{Whole}
 use Rattle.line.specs.Fault.{sheetLimit}
 use Rattle.field.specs.Names.{Names, countsOf}
@@ -24,7 +23,7 @@ use Rattle.saying.specs.Read.{ruleOf}
 use Rattle.sheet.specs.Said.{Said, SheetRule, outcome, outcomeFrom}
 use Rattle.sheet.specs.Said.Outcome.{accepted}
 use Rattle.field.specs.own.Table.{Table, Tidy, namesOf, tableOf}
-use Rattle.sheet.specs.own.Stands.{Beginning}
+use Rattle.sheet.specs.own.Stands.{Since}
 use Rattle.field.specs.Words.{Field, bodyOf, formOf}
 
 -- the line of a rule has the fields that are due
@@ -103,10 +102,6 @@ pub record Judges (sheet : List ℕ) (t : Table) (s : List ℕ) : Type 0 where
 -- its rules have so many findings in all
 abbrev pub Totalled : List ℕ → Table → List ℕ → ℕ → Type 0
 Totalled sheet t s r = (x : Said) → outcome sheet ≡ accepted x → x .names ≡ namesOf sheet t → Counted x s (x .rules) r
-
--- the rules of the sheet begin at a place, or after it
-abbrev pub Since : List ℕ → Start → Type 0
-Since sheet b = Beginning sheet (outcome sheet) b
 
 -- a sheet was read into the store s, which became t: the answer, the table of the names, and where the rules begin, if it was accepted
 pub record Wholly (sheet s t numbers : List ℕ) (r : Whole) : Type 0 where

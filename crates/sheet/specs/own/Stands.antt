@@ -125,6 +125,10 @@ pub record Beginning (sheet : List ℕ) (o : Outcome) (b : Start) : Type 0 where
   pub inside : b .at ≤ length sheet + 1
   pub near : b .line ≤ b .at + 2
 
+-- the rules of the sheet begin at a place, or after it
+abbrev pub Since : List ℕ → Start → Type 0
+Since sheet b = Beginning sheet (outcome sheet) b
+
 -- the table of what is kept
 abbrev pub keptTable : List ℕ → Ended → Table
 keptTable numbers r = tableOf numbers (r .kept .counts)
@@ -151,7 +155,7 @@ pub record Opens (sheet s numbers t : List ℕ) (r : Ended) : Type 0 where
   pub ends : outcome sheet ≡ ending (r .line) (r .why) said
   pub leaves : Leaves (ending (r .line) (r .why) said) s t
   pub near : r .line ≤ sheetLimit + 2
-  pub start : r .why ≡ 0 → Beginning sheet (outcome sheet) (r .start)
+  pub start : r .why ≡ 0 → Since sheet (r .start)
 
 -- the same, whatever the words were before
 abbrev pub Fills : List ℕ → List ℕ → List ℕ → Ended → Type 0
