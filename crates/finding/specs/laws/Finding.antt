@@ -21,6 +21,7 @@ use Rattle.rule.specs.Expr.{Expr, build, exprAt, exprOf}
 use Rattle.rule.specs.Expr.Expr.{name}
 use Rattle.rule.specs.Form.{nodeAt}
 use Rattle.rule.specs.Meaning.{HoldsOf}
+use Rattle.breach.specs.own.Plan.{isSub}
 use Rattle.sheet.specs.Said.{RuleAt, Said, SheetRule}
 use Rattle.finding.specs.declared.NodeName.{NodeName}
 use Rattle.finding.specs.Finding.{BrokenSub, SubOfNames, concept}
@@ -80,20 +81,7 @@ module _ {u : Rule} {a b : ℕ} (h : u .head ≡ head.Sub a b) where
       let e : s .right ≡ b = let z = sym (s .head) ∙ h in cc in
       node-not (nodeAt (u .nodes) b) r (concept d) x f (subst (λ (i : ℕ). nodeAt (u .nodes) i ≡ node.Name (concept d)) e (expr-name (u .nodes) (s .right) (concept d) (s .second)))
 
--- the rule's word is `sub`
-abbrev pub isSub : Head → Bool
-isSub (head.Sub a b) = true
-isSub (head.RoleSub r s) = false
-isSub (head.Chain k r1 r2 r3 r4 r) = false
-isSub (head.Ref r) = false
-isSub (head.Irr r) = false
-isSub (head.Dis r s) = false
-isSub (head.In c a) = false
-isSub (head.Rel r a b) = false
-isSub (head.NoRel r a b) = false
-isSub (head.Same a b) = false
-isSub (head.Differ a b) = false
-
+-- a rule with another word than `sub` has no sides
 pub sides-other : (u : Rule) → isSub (u .head) ≡ false → (c d : ℕ) → ¬ (SubOfNames u c d)
 sides-other u e c d s = true≢false (sym (ap isSub (s .head)) ∙ e)
 
