@@ -1,6 +1,4 @@
 -- What is proved of the written list.
 pub mod Written
 pub mod Lists
-pub mod Trail
-pub mod Opens
 pub mod Reads

@@ -1,49 +1,20 @@
 // The findings of a rule, and of all rules of a sheet, written into the caller's list.
-mod trails;
-
 ghost use Prim.Native.Nat.{_<_, _≤_};
 ghost use lib.ListN.{length};
 ghost use Rattle.judge.specs.own.Search.{Met, Ready};
 ghost use Rattle.store.specs.Layout.{width};
 ghost use Rattle.judge.specs.Promise.{Lists};
+ghost use Rattle.trail.specs.own.Trail.{Going, Went};
 ghost use Rattle.listing.specs.own.Listing.{Written};
 ghost use Rattle.listing.specs.Promise.{ReadsInto};
-ghost use Rattle.listing.specs.own.Trail.{Going, Went};
 use field::Table;
 use judge::Search;
 use judge::Total;
-use row::Row;
 use rule::Finding;
-use rule::Head;
 use rule::Rule;
 use sheet::Reading;
 use store::Counts;
-use store::Layout;
-
-// A search for the findings of all rules of a sheet: the finding at hand, the search of its rule, how many that rule has left, how many names are declared, and where the sheet is read on for the next rule.
-struct Trail {
-    pub finding: Finding,
-    pub x: usize,
-    pub y: usize,
-    pub row: Row,
-    pub left: Row,
-    pub right: Row,
-    pub head: Head,
-    pub at: Layout,
-    pub counts: Counts,
-    pub more: u64,
-    pub declared: Counts,
-    pub past: usize,
-    pub line: usize,
-    pub number: usize,
-}
-
-// What reading a sheet with a list needs: its answer, how many findings to write, and the trail at the first.
-struct Opening {
-    pub answer: Reading,
-    pub write: usize,
-    pub trail: Trail,
-}
+use trail::Trail;
 
 // Writes the first n findings from the search on into the list.
 fn write(list: &mut [Finding], n: usize, words: &[u64], first: Search)
@@ -92,7 +63,7 @@ fn write_all(
     let mut done = 0;
     while done < n {
         list[done] = c.finding;
-        c = trails::step(sheet, names, words, c);
+        c = trail::step(sheet, names, words, c);
         done += 1;
     }
 }
@@ -102,7 +73,7 @@ pub fn read(sheet: &[u8], words: &mut [u64], list: &mut [Finding]) -> Reading
     ensures { λ r. ⌜ ReadsInto (now (sheet .entry)) (now (words .entry)) (now (words .exit)) (now (list .entry)) (now (list .exit)) r ⌝ }
 {
     let mut names = [0u32; Table::NUMBERS];
-    let p = trails::open(sheet, words, &mut names, list.len());
+    let p = trail::open(sheet, words, &mut names, list.len());
     let n = p.write;
     let c = p.trail;
     write_all(list, n, sheet, &names, words, c);

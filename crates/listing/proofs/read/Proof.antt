@@ -48,23 +48,23 @@ use Rattle.rule.proofs.Finding as T
 use Rattle.sheet.specs.declared.Reading.{Reading}
 use Rattle.sheet.proofs.Reading as E
 use Rattle.sheet.proofs.Reading.Laws as E′
-use Rattle.listing.specs.declared.Opening.{Opening}
-use Rattle.listing.specs.declared.Trail.{Trail}
+use Rattle.trail.specs.declared.Opening.{Opening}
+use Rattle.trail.specs.declared.Trail.{Trail}
+use Rattle.trail.specs.own.Trail.{Going, Opens, Went}
 use Rattle.listing.specs.own.Listing.{Written}
 use Rattle.listing.specs.Promise.{ReadsInto}
-use Rattle.listing.specs.own.Trail.{Going, Opens, Went}
 use Rattle.listing.specs.laws.Reads.{reads-by}
 use Rattle.field.specs.own.Table.{numberCount}
 use Rattle.listing.proofs.Again.{LentAgain, comes-back, lends-again, shares}
 use Rattle.listing.proofs.Lent.{Loan, array-back, lends-array}
-use Rattle.listing.proofs.Trail as U
-use Rattle.listing.proofs.Trail.Laws as U′
-use Rattle.listing.proofs.Opening as Q
-use Rattle.listing.proofs.Opening.Laws as Q′
-use Rattle.listing.proofs.trails.open as op
-use Rattle.listing.proofs.trails.open.Symbol as op-def
-use Rattle.listing.proofs.trails.open.Symbol.{name as #listing·trails·open}
-use Rattle.listing.proofs.trails.open.Met as op-thm
+use Rattle.trail.proofs.Trail as U
+use Rattle.trail.proofs.Trail.Laws as U′
+use Rattle.trail.proofs.Opening as Q
+use Rattle.trail.proofs.Opening.Laws as Q′
+use Rattle.trail.proofs.open as op
+use Rattle.trail.proofs.open.Symbol as op-def
+use Rattle.trail.proofs.open.Symbol.{name as #trail·open}
+use Rattle.trail.proofs.open.Met as op-thm
 use Rattle.listing.proofs.write_all as wr
 use Rattle.listing.proofs.write_all.Symbol as wr-def
 use Rattle.listing.proofs.write_all.Symbol.{name as #listing·write-all}
@@ -286,7 +286,7 @@ module _ {M : Type 1} (𝓤 : URA M) (H : Heap 𝓤) (A : Atoms 𝓤) (W : Given
       nothing ! $ owned ! U.the-row (Is U.the-row) (LL.makes U.the-type U′.the-plain 𝓤 H A) (p .trail) _ g $ fjoin ! $ move ! (2 ∷ []) $ split ! $ move ! (1 ∷ []) $ split ! $ move ! (1 ∷ 3 ∷ []) $ fjoin ! $
       move ! (1 ∷ 0 ∷ []) $ fjoin ! $ move ! (1 ∷ 0 ∷ []) $ fjoin ! $ owned ! usize (Is usize) (uint-makes 𝓤 H A W w64) (p .write) _ (refl, fits) $ fjoin ! $ move ! (1 ∷ 0 ∷ []) $ fjoin ! $ done !
 
-  module _ (C : Calls 𝓤 H) (Λ : Loops 𝓤 H) (fm : FmC 𝓤 H (W .laws) C) (known-open : Triple 𝓤 (C #listing·trails·open) (Open 𝓤 H A mem run)) (known-write : Triple 𝓤 (C #listing·write-all) (Write 𝓤 H A mem run)) where
+  module _ (C : Calls 𝓤 H) (Λ : Loops 𝓤 H) (fm : FmC 𝓤 H (W .laws) C) (known-open : Triple 𝓤 (C #trail·open) (Open 𝓤 H A mem run)) (known-write : Triple 𝓤 (C #listing·write-all) (Write 𝓤 H A mem run)) where
     -- the MIR, statement by statement
     walk : Is (ShrSlice (named 0) κ u8) h (hv ∷ []) → ent 𝓤 (onEntry 𝓤 H A rd.signature (κ, (κ′, (κ″, tt))) (q, (q′, (q″, tt))) x at) (WpFn 𝓤 H C Λ code.function (hv ∷ sv ws ∷ lv ∷ []) Post)
     walk gh =
@@ -376,7 +376,7 @@ module _ {M : Type 1} (𝓤 : URA M) (H : Heap 𝓤) (A : Atoms 𝓤) (W : Given
 
 module _ {M : Type 1} (𝓤 : URA M) (H : Heap 𝓤) (A : Atoms 𝓤) (W : Given 𝓤 H A) (mem : Memory → SProp 𝓤) (run : Routine → Fun 𝓤) where
   -- the walk at each choice of lifetimes, shares and arguments
-  read-walks : (C : Calls 𝓤 H) (Λ : Loops 𝓤 H) → FmC 𝓤 H (W .laws) C → Triple 𝓤 (C #listing·trails·open) (Open 𝓤 H A mem run) → Triple 𝓤 (C #listing·write-all) (Write 𝓤 H A mem run) → Walks 𝓤 H A rd.ended stayed (WpFn 𝓤 H C Λ code.function) (rd.clauses 𝓤 H A mem run)
+  read-walks : (C : Calls 𝓤 H) (Λ : Loops 𝓤 H) → FmC 𝓤 H (W .laws) C → Triple 𝓤 (C #trail·open) (Open 𝓤 H A mem run) → Triple 𝓤 (C #listing·write-all) (Write 𝓤 H A mem run) → Walks 𝓤 H A rd.ended stayed (WpFn 𝓤 H C Λ code.function) (rd.clauses 𝓤 H A mem run)
   read-walks C Λ fm known-open known-write = walked 𝓤 H A rd.ended stayed (rd.clauses 𝓤 H A mem run) (WpFn 𝓤 H C Λ code.function)
       (λ κs. (slice-vals, (slice-vals, (slice-vals, tt))))
       (λ κs. (shr-slice-tells (named 0) (κs .0) u8, (mut-slice-tells (named 1) (κs .1 .0) u64, (mut-slice-tells (named 2) (κs .1 .1 .0) T.the-row, tt))))
@@ -388,7 +388,7 @@ module _ {M : Type 1} (𝓤 : URA M) (H : Heap 𝓤) (A : Atoms 𝓤) (W : Given
   goes = (goes-none-slice 𝓤 H A W 3 (0 ∷ []) tt (plain (λ _. u8)) yes, (goes-gave-slice 𝓤 H A W 3 1 tt (plain (λ _. u64)), (goes-gave-slice 𝓤 H A W 3 2 tt (plain (λ _. T.the-row)), tt)))
 
 -- the walk, taken to the contract
-read-meets : {M : Type 1} (𝓤 : URA M) (H : Heap 𝓤) (A : Atoms 𝓤) → Given 𝓤 H A → (mem : Memory → SProp 𝓤) (run : Routine → Fun 𝓤) (𝓣 : Tables 𝓤 H) → Triple 𝓤 (𝓣 .C #listing·trails·open) (Open 𝓤 H A mem run) → Triple 𝓤 (𝓣 .C #listing·write-all) (Write 𝓤 H A mem run)
+read-meets : {M : Type 1} (𝓤 : URA M) (H : Heap 𝓤) (A : Atoms 𝓤) → Given 𝓤 H A → (mem : Memory → SProp 𝓤) (run : Routine → Fun 𝓤) (𝓣 : Tables 𝓤 H) → Triple 𝓤 (𝓣 .C #trail·open) (Open 𝓤 H A mem run) → Triple 𝓤 (𝓣 .C #listing·write-all) (Write 𝓤 H A mem run)
     → Meets 𝓤 H A rd.signature (WpFn 𝓤 H (𝓣 .C) (𝓣 .Λ) code.function) (rd.spec 𝓤 H A mem run)
 read-meets 𝓤 H A W mem run 𝓣 known-open known-write =
     walk-meets 𝓤 H A rd.ended stayed W (goes 𝓤 H A W mem run) (rd.clauses 𝓤 H A mem run)
@@ -401,5 +401,5 @@ read-spec 𝓤 H 𝓜 𝓖 𝓡 =
     entered 𝓤 H (tripleOf 𝓤 H (𝓖 .A) rd.signature (rd.spec 𝓤 H (𝓖 .A) (𝓜 .mem) (𝓡 .run)))
     (tables 𝓤 H 𝓜 𝓡 code.env .C) (tables 𝓤 H 𝓜 𝓡 code.env .Λ) #listing·read code.function (code.unfolded 𝓤 H 𝓜 𝓡)
     (read-meets 𝓤 H (𝓖 .A) (givenOf 𝓤 H 𝓜 𝓖) (𝓜 .mem) (𝓡 .run) (tablesOf 𝓤 H 𝓜 (tables 𝓤 H 𝓜 𝓡 code.env))
-    (cited 𝓤 H (Open 𝓤 H (𝓖 .A) (𝓜 .mem) (𝓡 .run)) 𝓜 𝓡 code.env #listing·trails·open op-def.routine code.calls-listing·trails·open (op-thm.met 𝓤 H 𝓜 𝓖 𝓡))
+    (cited 𝓤 H (Open 𝓤 H (𝓖 .A) (𝓜 .mem) (𝓡 .run)) 𝓜 𝓡 code.env #trail·open op-def.routine code.calls-trail·open (op-thm.met 𝓤 H 𝓜 𝓖 𝓡))
     (cited 𝓤 H (Write 𝓤 H (𝓖 .A) (𝓜 .mem) (𝓡 .run)) 𝓜 𝓡 code.env #listing·write-all wr-def.routine code.calls-listing·write-all (wr-thm.met 𝓤 H 𝓜 𝓖 𝓡)))

@@ -50,19 +50,19 @@ use denote.Triple.Spec.{Meets, tripleOf}
 use denote.Triple.Table.{entered, cited}
 use denote.Triple.Walked.{says, needs, Stays, stay-slice, stay-none, stay-none-slice, walkOf, AllGo, goes-slice, goes-none, goes-none-slice, Walks, ends-at, walked, walk-meets}
 use denote.Exit.{yes}
-use Rattle.listing.specs.own.Trail.{Going, Steps, Went}
+use Rattle.trail.specs.own.Trail.{Going, Steps, Went}
+use Rattle.trail.specs.declared.Trail.{Trail}
 use Rattle.listing.specs.own.Listing.{WroteTo, Written}
 use Rattle.listing.specs.laws.Written.{wrote-start, wrote-more, wrote-length}
 use Rattle.rule.specs.declared.Finding.{Finding}
-use Rattle.listing.specs.declared.Trail.{Trail}
 use Rattle.rule.proofs.Finding as T
 use Rattle.rule.proofs.Finding.Laws as T′
-use Rattle.listing.proofs.Trail as U
-use Rattle.listing.proofs.Trail.Laws as U′
-use Rattle.listing.proofs.trails.step as st
-use Rattle.listing.proofs.trails.step.Symbol as st-def
-use Rattle.listing.proofs.trails.step.Symbol.{name as #listing·trails·step}
-use Rattle.listing.proofs.trails.step.Met as st-thm
+use Rattle.trail.proofs.Trail as U
+use Rattle.trail.proofs.Trail.Laws as U′
+use Rattle.trail.proofs.step as st
+use Rattle.trail.proofs.step.Symbol as st-def
+use Rattle.trail.proofs.step.Symbol.{name as #trail·step}
+use Rattle.trail.proofs.step.Met as st-thm
 use Rattle.listing.proofs.write_all.Key.{name as #listing·write-all}
 use Rattle.listing.proofs.write_all as wr
 use Rattle.listing.proofs.write_all.Statement as stated
@@ -217,7 +217,7 @@ module _ {M : Type 1} (𝓤 : URA M) (H : Heap 𝓤) (A : Atoms 𝓤) (W : Given
   st-said : (c r : Trail) → ent 𝓤 (ensured 𝓤 H A st.ended (st.clauses 𝓤 H A mem run) (κ′, (κ″, (κ‴, tt))) (h, (m, (s, (c, tt)))) tt r) (fact 𝓤 (Steps (now h) (now m) (now s) c r))
   st-said c r = exE 𝓤 _ (λ ws. snd∗ 𝓤 (sem 𝓤 H A (lasts st.ended (κ′, (κ″, (κ‴, tt))) (h, (m, (s, (c, tt)))) ws)) (fact 𝓤 (Steps (now h) (now m) (now s) c r)))
 
-  module _ (𝓣 : Tables 𝓤 H) (known : Triple 𝓤 (𝓣 .C #listing·trails·step) (Step 𝓤 H A mem run)) (room : Room T.the-row (length ys)) (n-fits : n < 2 ^ 64) (fit : n ≤ length ys) (ready₀ : 0 < n → Going (now h) (now m) (now s) first) (g₀ : Is U.the-row first (mc first ∷ [])) (l₀ l₁ l₂ l₃ l₄ l₅ l₆ l₇ l₈ l₉ l₁₀ l₁₁ : ℕ) where
+  module _ (𝓣 : Tables 𝓤 H) (known : Triple 𝓤 (𝓣 .C #trail·step) (Step 𝓤 H A mem run)) (room : Room T.the-row (length ys)) (n-fits : n < 2 ^ 64) (fit : n ≤ length ys) (ready₀ : 0 < n → Going (now h) (now m) (now s) first) (g₀ : Is U.the-row first (mc first ∷ [])) (l₀ l₁ l₂ l₃ l₄ l₅ l₆ l₇ l₈ l₉ l₁₀ l₁₁ : ℕ) where
     -- the table of calls
     abbrev C : Calls 𝓤 H
     C = 𝓣 .C
@@ -342,7 +342,7 @@ module _ {M : Type 1} (𝓤 : URA M) (H : Heap 𝓤) (A : Atoms 𝓤) (W : Given
     loops = via 𝓤 (Inv n) (inv-in n 0 first ys (omega arith, wrote-start Went.start, ready₀, g₀)) (loop-rule 𝓤 H (W .laws) 𝓣 _<_ (Nat·lt-wfRel .wf) En mir′.turn-1 Left Inv turns n)
 
   -- the MIR, up to the loop
-  walk : (𝓣 : Tables 𝓤 H) → Triple 𝓤 (𝓣 .C #listing·trails·step) (Step 𝓤 H A mem run) → Room T.the-row (length ys) → n < 2 ^ 64 → Is (ShrSlice (named 1) κ′ u8) h (hv ∷ []) → Is (ShrSlice (named 2) κ″ u32) m (mv ∷ []) → Is (ShrSlice (named 3) κ‴ u64) s (sv ∷ []) → Is U.the-row first (mc first ∷ []) → (n ≤ length ys) × (0 < n → Going (now h) (now m) (now s) first)
+  walk : (𝓣 : Tables 𝓤 H) → Triple 𝓤 (𝓣 .C #trail·step) (Step 𝓤 H A mem run) → Room T.the-row (length ys) → n < 2 ^ 64 → Is (ShrSlice (named 1) κ′ u8) h (hv ∷ []) → Is (ShrSlice (named 2) κ″ u32) m (mv ∷ []) → Is (ShrSlice (named 3) κ‴ u64) s (sv ∷ []) → Is U.the-row first (mc first ∷ []) → (n ≤ length ys) × (0 < n → Going (now h) (now m) (now s) first)
       → ent 𝓤 (onEntry 𝓤 H A wr.signature (κ, (κ′, (κ″, (κ‴, tt)))) (q, (q′, (q″, (q‴, tt)))) x at) (WpFn 𝓤 H (𝓣 .C) (𝓣 .Λ) code.function (lv ∷ vint w64 n ∷ hv ∷ mv ∷ sv ∷ mc first ∷ []) Post)
   walk 𝓣 known room n-fits gh gm gs g asked =
       let wt = LL.lawful U.the-type U′.the-laws 𝓤 H A W .typed first _ g .0 in
@@ -362,7 +362,7 @@ module _ {M : Type 1} (𝓤 : URA M) (H : Heap 𝓤) (A : Atoms 𝓤) (W : Given
 
 module _ {M : Type 1} (𝓤 : URA M) (H : Heap 𝓤) (A : Atoms 𝓤) (W : Given 𝓤 H A) (mem : Memory → SProp 𝓤) (run : Routine → Fun 𝓤) where
   -- the walk at each choice of lifetimes, shares and arguments
-  write-all-walks : (𝓣 : Tables 𝓤 H) → Triple 𝓤 (𝓣 .C #listing·trails·step) (Step 𝓤 H A mem run) → Walks 𝓤 H A wr.ended stayed (WpFn 𝓤 H (𝓣 .C) (𝓣 .Λ) code.function) (wr.clauses 𝓤 H A mem run)
+  write-all-walks : (𝓣 : Tables 𝓤 H) → Triple 𝓤 (𝓣 .C #trail·step) (Step 𝓤 H A mem run) → Walks 𝓤 H A wr.ended stayed (WpFn 𝓤 H (𝓣 .C) (𝓣 .Λ) code.function) (wr.clauses 𝓤 H A mem run)
   write-all-walks 𝓣 known = walked 𝓤 H A wr.ended stayed (wr.clauses 𝓤 H A mem run) (WpFn 𝓤 H (𝓣 .C) (𝓣 .Λ) code.function)
       (λ κs. (slice-vals, (uint-vals w64, (slice-vals, (slice-vals, (slice-vals, (LL.vals U.the-type U′.the-laws, tt)))))))
       (λ κs. (mut-slice-tells (named 0) (κs .0) T.the-row, (uint-tells w64, (shr-slice-tells (named 1) (κs .1 .0) u8, (shr-slice-tells (named 2) (κs .1 .1 .0) u32, (shr-slice-tells (named 3) (κs .1 .1 .1 .0) u64, (LL.tells U.the-type U′.the-laws, tt)))))))
@@ -374,7 +374,7 @@ module _ {M : Type 1} (𝓤 : URA M) (H : Heap 𝓤) (A : Atoms 𝓤) (W : Given
   goes = (goes-slice 𝓤 H A W 4 0 tt (plain (λ _. T.the-row)), (goes-none 𝓤 H A W 4 (λ _. usize) yes (λ κs x f. refl), (goes-none-slice 𝓤 H A W 4 (1 ∷ []) tt (plain (λ _. u8)) yes, (goes-none-slice 𝓤 H A W 4 (2 ∷ []) tt (plain (λ _. u32)) yes, (goes-none-slice 𝓤 H A W 4 (3 ∷ []) tt (plain (λ _. u64)) yes, (goes-none 𝓤 H A W 4 (λ _. U.the-row) yes (λ κs x f. refl), tt))))))
 
 -- the walk, taken to the contract
-write-all-meets : {M : Type 1} (𝓤 : URA M) (H : Heap 𝓤) (A : Atoms 𝓤) → Given 𝓤 H A → (mem : Memory → SProp 𝓤) (run : Routine → Fun 𝓤) (𝓣 : Tables 𝓤 H) → Triple 𝓤 (𝓣 .C #listing·trails·step) (Step 𝓤 H A mem run)
+write-all-meets : {M : Type 1} (𝓤 : URA M) (H : Heap 𝓤) (A : Atoms 𝓤) → Given 𝓤 H A → (mem : Memory → SProp 𝓤) (run : Routine → Fun 𝓤) (𝓣 : Tables 𝓤 H) → Triple 𝓤 (𝓣 .C #trail·step) (Step 𝓤 H A mem run)
     → Meets 𝓤 H A wr.signature (WpFn 𝓤 H (𝓣 .C) (𝓣 .Λ) code.function) (wr.spec 𝓤 H A mem run)
 write-all-meets 𝓤 H A W mem run 𝓣 known =
     walk-meets 𝓤 H A wr.ended stayed W (goes 𝓤 H A W mem run) (wr.clauses 𝓤 H A mem run)
@@ -387,4 +387,4 @@ write-all-spec 𝓤 H 𝓜 𝓖 𝓡 =
     entered 𝓤 H (tripleOf 𝓤 H (𝓖 .A) wr.signature (wr.spec 𝓤 H (𝓖 .A) (𝓜 .mem) (𝓡 .run)))
     (tables 𝓤 H 𝓜 𝓡 code.env .C) (tables 𝓤 H 𝓜 𝓡 code.env .Λ) #listing·write-all code.function (code.unfolded 𝓤 H 𝓜 𝓡)
     (write-all-meets 𝓤 H (𝓖 .A) (givenOf 𝓤 H 𝓜 𝓖) (𝓜 .mem) (𝓡 .run) (tablesOf 𝓤 H 𝓜 (tables 𝓤 H 𝓜 𝓡 code.env))
-    (cited 𝓤 H (Step 𝓤 H (𝓖 .A) (𝓜 .mem) (𝓡 .run)) 𝓜 𝓡 code.env #listing·trails·step st-def.routine code.calls-listing·trails·step (st-thm.met 𝓤 H 𝓜 𝓖 𝓡)))
+    (cited 𝓤 H (Step 𝓤 H (𝓖 .A) (𝓜 .mem) (𝓡 .run)) 𝓜 𝓡 code.env #trail·step st-def.routine code.calls-trail·step (st-thm.met 𝓤 H 𝓜 𝓖 𝓡)))

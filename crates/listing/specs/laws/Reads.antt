@@ -12,14 +12,14 @@ use Rattle.sheet.specs.Promise.{Reads}
 use Rattle.sheet.specs.Promise.Reads.{accepted as acceptedRead}
 use Rattle.sheet.specs.laws.Pass.{saidOf}
 use Rattle.sheet.specs.laws.Unique.{found-unique, reads-unique}
-use Rattle.listing.specs.declared.Opening.{Opening}
+use Rattle.trail.specs.declared.Opening.{Opening}
+use Rattle.trail.specs.own.Trail.{Begins, Opens, Went}
+use Rattle.trail.specs.own.Trail.Begins.{refused as not-begun, accepted as begun}
+use Rattle.trail.specs.laws.Opens.{isRefused}
+use Rattle.trail.specs.laws.Trail.{went-first}
 use Rattle.listing.specs.own.Listing.{Written}
 use Rattle.listing.specs.Promise.{ReadsInto}
 use Rattle.listing.specs.Promise.ReadsInto.{refused, accepted}
-use Rattle.listing.specs.own.Trail.{Begins, Opens, Went}
-use Rattle.listing.specs.own.Trail.Begins.{refused as not-begun, accepted as begun}
-use Rattle.listing.specs.laws.Opens.{isRefused}
-use Rattle.listing.specs.laws.Trail.{went-first}
 use Rattle.listing.specs.laws.Written.{written-first, written-none}
 
 -- the writer's work is the reading

@@ -1,9 +1,9 @@
--- `listing::trails::step` meets its contract. Assumes nothing.
-use Rattle.listing.specs.laws.Trail.{steps-along, steps-over}
+-- `trail::step` meets its contract. Assumes nothing.
+use Rattle.trail.specs.laws.Trail.{steps-along, steps-over}
 use borrow.Author.Needs.{needs}
 use native.Mathlib.Omega.{arith}
-use Rattle.listing.proofs.trails.step.Statement.{statement}
-use Rattle.listing.proofs.trails.step.Tie as tie
+use Rattle.trail.proofs.step.Statement.{statement}
+use Rattle.trail.proofs.step.Tie as tie
 
 search-of-requires : tie.Need-search-of-requires
 search-of-requires c κs = search needs

@@ -1,4 +1,4 @@
--- `listing::trails::seek` meets its contract: no rule from the first place to this one has a finding. Assumes nothing.
+-- `trail::seek` meets its contract: no rule from the first place to this one has a finding. Assumes nothing.
 use mathlib.Core.List.{List}
 use Prim.Native.Nat.{_+_, _-_, _≤_}
 use lib.ListN.{length}
@@ -7,12 +7,12 @@ use Rattle.store.specs.laws.Laid.{laid-of}
 use Rattle.rule.specs.declared.Finding.{Finding}
 use Rattle.field.specs.own.Table.{tableOf}
 use Rattle.sheet.specs.own.Pass.{Paused}
-use Rattle.listing.specs.own.Trail.{Beyond}
-use Rattle.listing.specs.laws.Trail.{beyond-on, beyond-paused, sought-none, sought-some}
+use Rattle.trail.specs.own.Trail.{Beyond}
+use Rattle.trail.specs.laws.Trail.{beyond-on, beyond-paused, sought-none, sought-some}
 use borrow.Author.Needs.{needs}
 use native.Mathlib.Omega.{arith}
-use Rattle.listing.proofs.trails.seek.Statement.{statement}
-use Rattle.listing.proofs.trails.seek.Tie as tie
+use Rattle.trail.proofs.seek.Statement.{statement}
+use Rattle.trail.proofs.seek.Tie as tie
 
 abbrev Inv-loop : tie.InvT-loop
 Inv-loop sheet names counts words from first rule at past₀ line₀ number₀ past line number = Paused sheet (tableOf names counts) past line × (number ≤ past) × ((fs : List Finding) → Beyond sheet words (tableOf names counts) from first rule fs → Beyond sheet words (tableOf names counts) past line number fs)

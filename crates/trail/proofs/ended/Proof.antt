@@ -1,8 +1,8 @@
--- `listing::trails::ended` meets its contract. Assumes nothing.
+-- `trail::ended` meets its contract. Assumes nothing.
 use mathlib.Core.Path.{refl}
 use borrow.Author.Needs.{needs}
-use Rattle.listing.proofs.trails.ended.Statement.{statement}
-use Rattle.listing.proofs.trails.ended.Tie as tie
+use Rattle.trail.proofs.ended.Statement.{statement}
+use Rattle.trail.proofs.ended.Tie as tie
 
 empty-requires : tie.Need-empty-requires
 empty-requires c κs = search needs

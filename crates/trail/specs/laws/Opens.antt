@@ -19,9 +19,9 @@ use Rattle.sheet.specs.Said.Outcome.{accepted as acceptedSheet}
 use Rattle.field.specs.own.Table.{Table, namesOf, tableOf}
 use Rattle.sheet.specs.laws.Pass.{passing-since}
 use Rattle.sheet.specs.laws.Stands.{counts-of}
-use Rattle.listing.specs.declared.Trail.{Trail}
-use Rattle.listing.specs.own.Trail.{Opens, Sought}
-use Rattle.listing.specs.own.Trail.Begins.{refused, accepted}
+use Rattle.trail.specs.declared.Trail.{Trail}
+use Rattle.trail.specs.own.Trail.{Opens, Sought}
+use Rattle.trail.specs.own.Trail.Begins.{refused, accepted}
 
 -- the findings that an answer counts
 abbrev totalIn : Reading → ℕ

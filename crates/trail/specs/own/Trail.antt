@@ -15,8 +15,8 @@ use Rattle.sheet.specs.Promise.{FindingsFrom, FindingsIn, Held, Reads}
 use Rattle.sheet.specs.Said.{Said, SheetRule, outcome}
 use Rattle.sheet.specs.Said.Outcome.{accepted as acceptedSheet}
 use Rattle.field.specs.own.Table.{Table, Tidy, tableOf}
-use Rattle.listing.specs.declared.Opening.{Opening}
-use Rattle.listing.specs.declared.Trail.{Trail}
+use Rattle.trail.specs.declared.Opening.{Opening}
+use Rattle.trail.specs.declared.Trail.{Trail}
 
 -- the search of the rule at hand
 abbrev pub searchOf : Trail → Search

@@ -1,20 +1,45 @@
-// The findings of all rules of an accepted sheet, one after the other: parts of `read`, seen in this crate alone.
+// The findings of all rules of an accepted sheet, one after the other: the parts of `listing::read`, which writes them into a list.
 ghost use mathlib.Core.Path.{_≡_};
 ghost use Prim.Native.Nat.{min, _≤_};
 ghost use lib.ListN.{length};
 ghost use Rattle.store.specs.Layout.{ClosedStore, width};
 ghost use Rattle.field.specs.own.Table.{Tidy, numberCount, tableOf};
 ghost use Rattle.sheet.specs.own.Pass.{Paused};
-ghost use Rattle.listing.specs.own.Trail.{Ended, Going, Opens, Sought, Steps, searchOf, trailAt};
-use crate::Opening;
-use crate::Trail;
+ghost use Rattle.trail.specs.own.Trail.{Ended, Going, Opens, Sought, Steps, searchOf, trailAt};
 use judge::Search;
+use row::Row;
 use rule::Finding;
 use rule::Head;
 use rule::Second;
 use sheet::Reading;
 use store::Counts;
 use store::Item;
+use store::Layout;
+
+// A search for the findings of all rules of a sheet: the finding at hand, the search of its rule, how many that rule has left, how many names are declared, and where the sheet is read on for the next rule.
+pub struct Trail {
+    pub finding: Finding,
+    pub x: usize,
+    pub y: usize,
+    pub row: Row,
+    pub left: Row,
+    pub right: Row,
+    pub head: Head,
+    pub at: Layout,
+    pub counts: Counts,
+    pub more: u64,
+    pub declared: Counts,
+    pub past: usize,
+    pub line: usize,
+    pub number: usize,
+}
+
+// What reading a sheet with a list needs: its answer, how many findings to write, and the trail at the first.
+pub struct Opening {
+    pub answer: Reading,
+    pub write: usize,
+    pub trail: Trail,
+}
 
 // The search of the rule at hand.
 fn search_of(c: Trail) -> Search

@@ -1,9 +1,9 @@
--- `listing::trails::open` meets its contract. Assumes nothing.
-use Rattle.listing.specs.laws.Opens.{opens-accepted, opens-paused, opens-refused, opens-store}
+-- `trail::open` meets its contract. Assumes nothing.
+use Rattle.trail.specs.laws.Opens.{opens-accepted, opens-paused, opens-refused, opens-store}
 use borrow.Author.Needs.{needs}
 use native.Mathlib.Omega.{arith}
-use Rattle.listing.proofs.trails.open.Statement.{statement}
-use Rattle.listing.proofs.trails.open.Tie as tie
+use Rattle.trail.proofs.open.Statement.{statement}
+use Rattle.trail.proofs.open.Tie as tie
 
 whole-requires : tie.Need-whole-requires
 whole-requires c κs = c .before .before .before .before .before .pre

@@ -26,8 +26,8 @@ use Rattle.sheet.specs.Promise.FindingsFrom.{none, more}
 use Rattle.sheet.specs.Said.{SheetRule}
 use Rattle.field.specs.own.Table.{Table, Tidy}
 use Rattle.sheet.specs.laws.Pass.{passing-rest}
-use Rattle.listing.specs.declared.Trail.{Trail}
-use Rattle.listing.specs.own.Trail.{Beyond, Ended, Going, Onward, Sought, Steps, Went, namesAt, searchOf, trailAt}
+use Rattle.trail.specs.declared.Trail.{Trail}
+use Rattle.trail.specs.own.Trail.{Beyond, Ended, Going, Onward, Sought, Steps, Went, namesAt, searchOf, trailAt}
 
 -- ---- the findings of rules
 

@@ -1,0 +1,3 @@
+-- What is proved of the trail.
+pub mod Trail
+pub mod Opens
