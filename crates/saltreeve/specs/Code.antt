@@ -2,19 +2,13 @@
 use mathlib.Core.Path.{_≡_}
 use mathlib.Core.List.{List}
 use Prim.Native.Nat.{ℕ}
-use lib.IntN.{ℤ, pos, negℤ}
+use lib.IntN.{ℤ}
 use Rattle.store.specs.declared.Counts.{Counts}
 use Rattle.closure.specs.declared.Answer.{Answer}
-use Rattle.closure.specs.declared.Answer.the-variants.{Cells, Refused}
 use Rattle.store.specs.Cell.{Cell}
 use Rattle.store.specs.Layout.{width}
-use Rattle.closure.specs.Refusal.{number}
 use Rattle.closure.specs.Promise.{Makes, Adds}
-
--- an answer as a signed number
-abbrev pub codeOf : Answer → ℤ
-codeOf (Cells m) = pos m
-codeOf (Refused k) = negℤ (pos (number k))
+use Rattle.signed.specs.Codes.{codeOf}
 
 -- the declared counts
 abbrev pub counts : ℕ → ℕ → ℕ → Counts

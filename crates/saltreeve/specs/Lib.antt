@@ -2,5 +2,4 @@
 pub mod Code
 pub mod Check
 pub mod Why
-pub mod own
 pub mod laws

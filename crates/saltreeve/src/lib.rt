@@ -1,44 +1,25 @@
 // What other languages call: the entry points under their C names, and nothing else.
-ghost use mathlib.Core.Path.{_≡_};
 ghost use mathlib.Core.Bool.{not};
 ghost use lib.Dec.{eqb};
 ghost use Rattle.store.specs.Cell.{cellOf};
 ghost use Rattle.store.specs.Cell.Cell.{Same, Under, RoleUnder, In, Link};
-ghost use Rattle.saltreeve.specs.Code.{AddCode, FreshCode, codeOf, counts};
-ghost use Rattle.saltreeve.specs.own.Code.{Small};
+ghost use Rattle.saltreeve.specs.Code.{AddCode, FreshCode, counts};
 
 pub mod checks;
 pub mod reasons;
 pub mod rules;
 
-use closure::Answer;
-use closure::Refusal;
 use store::Concept;
 use store::Counts;
 use store::Item;
 use store::Role;
 use store::Statement;
 
-// An answer as a signed number: the cells, or minus the number of refusal.
-fn code(a: Answer) -> i64
-    requires { ⌜ Small a ⌝ }
-    ensures { λ r. ⌜ r ≡ codeOf a ⌝ }
-{
-    match a {
-        Answer::Cells(m) => m as i64,
-        Answer::Refused(k) => match k {
-            Refusal::Size => -1,
-            Refusal::NotClosed => -2,
-            Refusal::Number => -4,
-        },
-    }
-}
-
 // Adds a statement to the lent store.
 fn add(words: &mut [u64], n: Counts, s: Statement) -> i64
     ensures { λ r. ⌜ AddCode n (cellOf s) (now (words .entry)) (now (words .exit)) r ⌝ }
 {
-    code(closure::add(words, n, s))
+    signed::code(closure::add(words, n, s))
 }
 
 // Makes the lent words a fresh store.
@@ -59,7 +40,7 @@ pub extern "C" fn saltreeve_fresh(
             roles,
         },
     );
-    code(a)
+    signed::code(a)
 }
 
 // Adds "a is the same as b".

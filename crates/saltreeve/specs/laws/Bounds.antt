@@ -42,7 +42,7 @@ use Rattle.why.specs.Promise.{Explains}
 use Rattle.why.specs.Promise.Explains.{refused as refusedCell, not-true, found}
 use Rattle.why.specs.Reason.{Reason}
 use Rattle.why.specs.laws.Few.{statements-few}
-use Rattle.saltreeve.specs.Why.{SmallExplained, SmallFinding}
+use Rattle.signed.specs.Codes.{SmallExplained, SmallFinding}
 
 -- ---- the lines of a reason
 

@@ -12,8 +12,9 @@ use Rattle.store.specs.Cell.{Cell}
 use Rattle.store.specs.Layout.{width}
 use Rattle.closure.specs.Promise.{Makes, Adds}
 use Rattle.closure.specs.laws.Refusals.{makes-unique, adds-unique, makes-small, adds-small}
-use Rattle.saltreeve.specs.Code.{codeOf, FreshCode, AddCode}
-use Rattle.saltreeve.specs.own.Code.{Small}
+use Rattle.signed.specs.Codes.{codeOf}
+use Rattle.signed.specs.own.Small.{Small}
+use Rattle.saltreeve.specs.Code.{FreshCode, AddCode}
 
 -- the answers of the entry points are small
 pub makes-code : {n : Counts} {s t : List ℕ} (r : Answer) → Makes width n s t r → Small r

@@ -1,11 +1,11 @@
--- `saltreeve::reasons::explained` meets its contract. Assumes nothing.
+-- `signed::explained` meets its contract. Assumes nothing.
 use native.Mathlib.Omega.{arith}
 use mathlib.Core.Path.{_∙_}
 use mir.Syntax.{w64}
 use mir.ValLaws.{toZ-ofZ, toZ-pos}
 use borrow.Author.Needs.{needs}
-use Rattle.saltreeve.proofs.reasons.explained.Statement.{statement}
-use Rattle.saltreeve.proofs.reasons.explained.Tie as tie
+use Rattle.signed.proofs.explained.Statement.{statement}
+use Rattle.signed.proofs.explained.Tie as tie
 
 enum-known-r : tie.Need-enum-known-r
 enum-known-r c = search needs

@@ -1,10 +1,10 @@
--- `saltreeve::code` meets its contract: each arm gives its case. Assumes nothing.
+-- `signed::code` meets its contract: each arm gives its case. Assumes nothing.
 use native.Mathlib.Omega.{arith}
 use mir.Syntax.{w64}
 use mir.ValLaws.{toZ-pos}
 use borrow.Author.Needs.{needs}
-use Rattle.saltreeve.proofs.code.Statement.{statement}
-use Rattle.saltreeve.proofs.code.Tie as tie
+use Rattle.signed.proofs.code.Statement.{statement}
+use Rattle.signed.proofs.code.Tie as tie
 
 enum-known-a : tie.Need-enum-known-a
 enum-known-a c = search needs

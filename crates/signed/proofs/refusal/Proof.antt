@@ -1,12 +1,12 @@
--- `saltreeve::reasons::refusal` meets its contract. Assumes nothing.
+-- `signed::refusal` meets its contract. Assumes nothing.
 use native.Mathlib.Omega.{arith}
 use mathlib.Core.Path.{_∙_}
 use Prim.Native.Nat.{_+_, _*_}
-use Rattle.saltreeve.specs.laws.Why.{minus-fits, minus-is}
+use Rattle.signed.specs.laws.Minus.{minus-fits, minus-is}
 use mir.Syntax.{w64}
 use mir.ValLaws.{toZ-ofZ, toZ-pos}
-use Rattle.saltreeve.proofs.reasons.refusal.Statement.{statement}
-use Rattle.saltreeve.proofs.reasons.refusal.Tie as tie
+use Rattle.signed.proofs.refusal.Statement.{statement}
+use Rattle.signed.proofs.refusal.Tie as tie
 
 mul-result : tie.Need-mul-result
 mul-result c = omega (arith, (c .pre .0))

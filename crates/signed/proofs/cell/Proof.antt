@@ -1,7 +1,7 @@
--- `saltreeve::reasons::cell` meets its contract. Assumes nothing.
+-- `signed::cell` meets its contract. Assumes nothing.
 use borrow.Author.Tests.{ne-eqb}
-use Rattle.saltreeve.proofs.reasons.cell.Statement.{statement}
-use Rattle.saltreeve.proofs.reasons.cell.Tie as tie
+use Rattle.signed.proofs.cell.Statement.{statement}
+use Rattle.signed.proofs.cell.Tie as tie
 
 returns : tie.Need-returns
 returns c = rw (c .match .keys1)

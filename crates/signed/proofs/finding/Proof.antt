@@ -1,11 +1,11 @@
--- `saltreeve::reasons::finding` meets its contract. Assumes nothing.
+-- `signed::finding` meets its contract. Assumes nothing.
 use native.Mathlib.Omega.{arith}
 use mathlib.Core.Path.{_∙_}
 use mir.Syntax.{w64}
 use mir.ValLaws.{toZ-ofZ, toZ-pos}
 use borrow.Author.Needs.{needs}
-use Rattle.saltreeve.proofs.reasons.finding.Statement.{statement}
-use Rattle.saltreeve.proofs.reasons.finding.Tie as tie
+use Rattle.signed.proofs.finding.Statement.{statement}
+use Rattle.signed.proofs.finding.Tie as tie
 
 enum-known-r : tie.Need-enum-known-r
 enum-known-r c = search needs

@@ -1,0 +1,2 @@
+-- What is proved of signed numbers.
+pub mod Minus

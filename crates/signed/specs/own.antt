@@ -1,0 +1,2 @@
+-- What the parts of the code ask, which no promise mentions.
+pub mod Small
