@@ -15,8 +15,8 @@ use Rattle.finding.specs.Finding.{BrokenSub, notBroken}
 use Rattle.why.specs.Listed.{linesOf}
 use Rattle.why.specs.Promise.{notTrue}
 use Rattle.why.specs.Reason.{Reason}
-use Rattle.answer.specs.Question.{AsksCell, AsksFinding, aboutFinding, bare}
-use Rattle.answer.specs.Text.{absentText, reasonText}
+use Rattle.question.specs.Question.{AsksCell, AsksFinding, aboutFinding, bare}
+use Rattle.cited.specs.Text.{absentText, reasonText}
 
 -- The text for a question. First the sheet's own refusals, as `check` prints them.
 -- Of a statement: 24 if its cell is not true or it asks for none; otherwise the lines of a reason for the cell, and their total.

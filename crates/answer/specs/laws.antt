@@ -1,4 +1,3 @@
--- What is proved of questions and of what is printed for them.
+-- What is proved of questions for a finding, and of what is printed.
 pub mod Asked
 pub mod Reply
-pub mod Writing

@@ -1,3 +1,3 @@
--- How a question is taken apart and the text written: no promise of an entry point mentions it.
+-- The finding that a question asks for, and how the question is answered: no promise of an entry point mentions it.
 pub mod Asked
-pub mod Writing
+pub mod Reply

@@ -6,9 +6,10 @@ ghost use Rattle.sheet.specs.Promise.{refusedText};
 ghost use Rattle.field.specs.own.Table.{Tidy, namesOf, tableOf};
 ghost use Rattle.why.specs.own.Asked.{Asked, Of};
 ghost use Rattle.answer.specs.Promise.{Fitted, Replies};
-ghost use Rattle.answer.specs.Question.{aboutFinding};
-ghost use Rattle.answer.specs.own.Writing.{Accepted, CellReply, FindingReply, Known, ReasonFits, ReasonSaid};
-use crate::Absent;
+ghost use Rattle.question.specs.Question.{aboutFinding};
+ghost use Rattle.cited.specs.own.Writing.{Accepted};
+ghost use Rattle.answer.specs.own.Reply.{CellReply, FindingReply, Known, ReasonFits, ReasonSaid};
+use cited::Absent;
 use field::Table;
 use reason::Lines;
 use store::Concept;
@@ -22,11 +23,11 @@ fn refuse(room: &mut [u8], line: usize, why: usize) -> usize
     ensures { λ r. ⌜ Fitted (refusedText line why) (now (room .entry)) (now (room .exit)) r ⌝ }
 {
     let mut own = [0u8; 1];
-    let n = report::print::refused(&mut own, 0, line, why);
+    let n = printed::refused(&mut own, 0, line, why);
     if room.len() < n {
         return n;
     }
-    report::print::refused(room, 0, line, why)
+    printed::refused(room, 0, line, why)
 }
 
 // Writes the text of the statements marked, if it has place in the room; gives its length.
@@ -42,11 +43,11 @@ fn fit(
     ensures { λ r. ⌜ ReasonFits (now (sheet .entry)) (namesOf (now (sheet .entry)) (tableOf (now (names .entry)) counts)) a (now (marks .entry)) (now (room .entry)) (now (room .exit)) r ⌝ }
 {
     let mut own = [0u8; 1];
-    let n = crate::print::put_reason(sheet, names, counts, marks, a, &mut own);
+    let n = cited::print::put_reason(sheet, names, counts, marks, a, &mut own);
     if room.len() < n {
         return n;
     }
-    crate::print::put_reason(sheet, names, counts, marks, a, room)
+    cited::print::put_reason(sheet, names, counts, marks, a, room)
 }
 
 // Writes the text of a reason for a cell that follows, with what is absent, if it has place in the room; gives its length.
@@ -78,7 +79,7 @@ fn cell(
     requires { ⌜ Known (now sheet) (tableOf (now names) counts) (now words) ⌝ }
     ensures { λ r. ⌜ CellReply (now (sheet .entry)) (now (q .entry)) (now (room .entry)) (now (room .exit)) r ⌝ }
 {
-    let c = crate::ask::cell(sheet, names, counts, q);
+    let c = question::ask::cell(sheet, names, counts, q);
     if !c.asked {
         return refuse(room, 0, 24);
     }
@@ -131,8 +132,8 @@ pub fn reply(sheet: &[u8], question: &[u8], room: &mut [u8]) -> usize
     }
     let kept = e.kept;
     let counts = kept.counts;
-    let q = crate::ask::bare(question);
-    if crate::ask::about_finding(q) {
+    let q = question::ask::bare(question);
+    if question::ask::about_finding(q) {
         return finding(sheet, &names, counts, &words, q, room);
     }
     cell(sheet, &names, counts, &words, q, room)

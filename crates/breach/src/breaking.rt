@@ -8,14 +8,14 @@ ghost use Rattle.row.specs.own.Pick.{Marks, room};
 ghost use Rattle.store.specs.Layout.{ClosedStore, Holds};
 ghost use Rattle.store.specs.own.Laid.{Laid};
 ghost use Rattle.rule.specs.Breaks.{BreaksPair};
-ghost use Rattle.rule.specs.own.Packed.{packLimit, slotsOf};
+ghost use Rattle.packed.specs.own.Packed.{packLimit, slotsOf};
 ghost use Rattle.breach.specs.own.Plan.{BreaksBy, PlaceBreaks, Planned, RootRow, isPair, isSub, leftRoot, rightRoot};
 ghost use Rattle.store.specs.Cell.{DeclaredItem};
 use crate::Plan;
 use crate::Root;
 use row::Row;
 use rule::Head;
-use rule::Packed;
+use packed::Packed;
 use rule::Rule;
 use store::Counts;
 use store::Item;
@@ -249,7 +249,7 @@ pub fn plan(words: &[u64], at: Layout, counts: Counts, rule: Rule) -> Plan
     let head = rule.head;
     let nodes = rule.nodes;
     let mut numbers = [0; Packed::ROOM];
-    rule::packs::put_all(&mut numbers, nodes);
+    packed::put_all(&mut numbers, nodes);
     let left = root_row(words, at, counts, &numbers, left_root(head));
     let right = root_row(words, at, counts, &numbers, right_root(head));
     Plan { head, left, right }

@@ -28,8 +28,8 @@ use Rattle.rule.specs.Findings.{Findings}
 use Rattle.query.specs.declared.Outcome.{Outcome}
 use Rattle.query.specs.declared.Outcome.the-variants.{Compiled, Refused}
 use Rattle.query.specs.declared.QueryRefusal.the-variants.{Room}
-use Rattle.query.specs.Body.{size}
-use Rattle.query.specs.Translation.{ofExpr}
+use Rattle.body.specs.Body.{size}
+use Rattle.body.specs.Translation.{ofExpr}
 use Rattle.query.specs.Promise.{Compiles}
 use Rattle.text.specs.Bytes.{bytes}
 use Rattle.text.specs.Date.{dateShaped}

@@ -7,7 +7,7 @@ ghost use Rattle.store.specs.Cell.Cell.{Same, In};
 ghost use Rattle.store.specs.Layout.{ClosedStore, Holds};
 ghost use Rattle.store.specs.own.Laid.{Laid};
 ghost use Rattle.rule.specs.Expr.{exprAt};
-ghost use Rattle.rule.specs.own.Packed.{packLimit, slotsOf};
+ghost use Rattle.packed.specs.own.Packed.{packLimit, slotsOf};
 ghost use Rattle.rule.specs.Meaning.{HoldsOf, Linked};
 ghost use Rattle.expression.specs.own.Row.{NodeHolds};
 use row::Row;
@@ -106,7 +106,7 @@ pub fn row_at(
     if left == 0 {
         return fill(words, at, counts, Node::Top, &none, &none);
     }
-    let here = rule::packs::node_at(nodes, node);
+    let here = packed::node_at(nodes, node);
     if !crate::children::has_first(here) {
         return fill(words, at, counts, here, &none, &none);
     }

@@ -107,6 +107,11 @@ isExpr Nothing = false
 abbrev pub next : Due → Field → List Due → List Due
 next d f ds = cond (isExpr d) (wanted (operatorOf f)) [] ++ ds
 
+-- there is none
+abbrev pub none : {A : Type 0} → List A → Bool
+none [] = true
+none (x ∷ xs) = false
+
 -- the fields are exactly those that are due: none too few, none too many
 unfoldable pub fits : List Due → List Field → Bool
 fits [] [] = true

@@ -70,7 +70,7 @@ fn place_in(sheet: &[u8], entries: &[u32], w: &[u8], key: u32) -> usize
     i
 }
 
-// A number made of a name's first four bytes and its last four, or of its tag.
+// A number below the hints, made of a name's first four bytes and its last four, or of its tag.
 fn key(w: &[u8]) -> usize
     ensures { λ r. ⌜ (r ≡ keyOf (now (w .entry))) × (r < hintCount) ⌝ }
 {

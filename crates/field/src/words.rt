@@ -139,10 +139,10 @@ pub fn form(line: &[u8], ends: &[u16]) -> Form
     requires { ⌜ Looked (now line) (now ends) ⌝ }
     ensures { λ r. ⌜ r ≡ formOf (fields (now (line .entry))) ⌝ }
 {
-    let w = text::scan::field(line, ends, 0);
+    let w = reader::scan::field(line, ends, 0);
     if is_rule(w) {
         if 1 < ends.len() {
-            return rule_form(text::scan::field(line, ends, 1));
+            return rule_form(reader::scan::field(line, ends, 1));
         }
         return Form::Bare;
     }

@@ -124,10 +124,10 @@ pub fn prepare(words: &[u64], counts: Counts, number: usize, rule: Rule, room: u
     if !closed::is_closed(words, at, counts) {
         return stop(counts, number, rule, RuleRefusal::NotClosed);
     }
-    if !rule::form::well_formed(rule) {
+    if !form::well_formed(rule) {
         return stop(counts, number, rule, RuleRefusal::Malformed);
     }
-    if !rule::form::rule_within(counts, rule) {
+    if !form::rule_within(counts, rule) {
         return stop(counts, number, rule, RuleRefusal::Number);
     }
     start(words, at, counts, number, rule, room)

@@ -1,6 +1,6 @@
 -- What is wrong with a line: the numbers of refusal 10 to 21.
 use mathlib.Core.Bool.{Bool, true, false, cond, not, _||_}
-use mathlib.Core.List.{List, [], _∷_, _++_}
+use mathlib.Core.List.{List, _∷_, _++_}
 use Prim.Native.Nat.{ℕ}
 use lib.Dec.{leb, ltb}
 use lib.ListN.{length}
@@ -12,7 +12,7 @@ use Rattle.field.specs.declared.Form.{Form}
 use Rattle.line.specs.declared.Marks.{Marks}
 use Rattle.field.specs.declared.Section.{Section}
 use Rattle.field.specs.declared.Section.the-variants as section
-use Rattle.field.specs.Due.{lineupOf, dues, fits}
+use Rattle.field.specs.Due.{lineupOf, dues, fits, none}
 use Rattle.field.specs.Names.{Names, fault, lowerFault, fieldFaults, nodesIn}
 use Rattle.field.specs.Words.{Field, formOf, bodyOf, sectionOf}
 
@@ -25,11 +25,6 @@ lineLimit = 512
 
 abbrev pub ruleLimit : ℕ
 ruleLimit = 64
-
--- there is none
-abbrev pub none : {A : Type 0} → List A → Bool
-none [] = true
-none (x ∷ xs) = false
 
 -- a statement or a rule was accepted
 abbrev pub begun : Marks → Bool

@@ -1,24 +1,7 @@
-// What is wrong with a line: the fields that are due in it, each field by itself, and the line as a whole.
-mod dues;
+// What is wrong with a line: each field by itself, and the line as a whole.
 mod faults;
 pub mod lines;
 mod walk;
-
-// What is due first in the middle of an expression, before some expressions.
-enum Lead {
-    None,
-    RoleUse,
-    AtLeast,
-    AtMost,
-    Item,
-}
-
-// What is still due in a line: the lead, so many expressions, and of the line-up what comes after its first so many.
-struct Pending {
-    pub lead: Lead,
-    pub exprs: usize,
-    pub own: usize,
-}
 
 // What all the fields of a line come to: whether they are exactly those that are due, the lowest number of refusal that applies to one of them or 0, and their nodes.
 struct Walked {

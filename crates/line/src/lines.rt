@@ -96,7 +96,7 @@ fn fields_fault(
     ensures { λ r. ⌜ r ≡ fieldsFault (namesOf (now (sheet .entry)) (tableOf (now (names .entry)) counts)) m f (drop (wordsOf f) (fields (now (line .entry)))) ⌝ }
 {
     let from = field::words::words(f);
-    let l = crate::dues::lineup(f, after(ends.len(), from));
+    let l = due::dues::lineup(f, after(ends.len(), from));
     let w = crate::walk::walk(sheet, names, counts, line, ends, from, l);
     if !w.fits {
         return 14;

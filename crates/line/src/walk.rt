@@ -1,165 +1,15 @@
-ghost use mathlib.Core.Path.{_≡_};
-ghost use mathlib.Core.Bool.{cond};
-ghost use Prim.Native.Nat.{_≤_, _<_};
-ghost use lib.ListN.{length, getD, drop};
+ghost use Prim.Native.Nat.{_≤_};
+ghost use lib.ListN.{length, drop};
 ghost use Rattle.text.specs.Split.{fields};
-ghost use Rattle.field.specs.Due.{dues, isExpr};
-ghost use Rattle.field.specs.Names.{nodesOf};
-ghost use Rattle.line.specs.Fault.{none, lineLimit};
+ghost use Rattle.field.specs.Due.{dues};
+ghost use Rattle.line.specs.Fault.{lineLimit};
 ghost use Rattle.field.specs.own.Table.{Tidy, namesOf, tableOf};
-ghost use Rattle.line.specs.own.Walk.{Step, WalkedBy, opening, pending, plenty};
-ghost use Rattle.field.specs.Words.{operatorOf};
+ghost use Rattle.line.specs.own.Walk.{WalkedBy};
 ghost use Rattle.field.specs.own.Line.{Looked};
-use crate::Lead;
-use crate::Pending;
 use crate::Walked;
-use field::Due;
+use due::Lead;
 use field::Lineup;
-use field::Operator;
 use store::Counts;
-
-// What is still due, by its parts.
-fn pend(lead: Lead, exprs: usize, own: usize) -> Pending
-    ensures { λ r. ⌜ r ≡ record { lead = lead; exprs = exprs; own = own } ⌝ }
-{
-    Pending { lead, exprs, own }
-}
-
-// What is still due after a word of an expression, where m expressions were due after that one.
-fn wants(o: Operator, m: usize, own: usize) -> Pending
-    requires { ⌜ m < plenty ⌝ }
-    ensures { λ r. ⌜ r ≡ opening o m own ⌝ }
-{
-    match o {
-        Operator::And => pend(Lead::None, m + 2, own),
-        Operator::Or => pend(Lead::None, m + 2, own),
-        Operator::Not => pend(Lead::None, m + 1, own),
-        Operator::Some => pend(Lead::RoleUse, m + 1, own),
-        Operator::All => pend(Lead::RoleUse, m + 1, own),
-        Operator::AtLeast => pend(Lead::AtLeast, m + 1, own),
-        Operator::AtMost => pend(Lead::AtMost, m + 1, own),
-        Operator::SelfOf => pend(Lead::RoleUse, m, own),
-        Operator::One => pend(Lead::Item, m, own),
-        Operator::Top => pend(Lead::None, m, own),
-        Operator::Bot => pend(Lead::None, m, own),
-        Operator::None => pend(Lead::None, m, own),
-    }
-}
-
-// Whether nothing is due any more.
-fn none_left(l: Lineup, p: Pending) -> bool
-    ensures { λ r. ⌜ r ≡ none (pending l p) ⌝ }
-{
-    let lead = p.lead;
-    let own = p.own;
-    match lead {
-        Lead::None => {
-            if 0 < p.exprs {
-                return false;
-            }
-            if Lineup::MOST <= own {
-                return true;
-            }
-            l.count <= own
-        }
-        Lead::RoleUse => false,
-        Lead::AtLeast => false,
-        Lead::AtMost => false,
-        Lead::Item => false,
-    }
-}
-
-// What is due next.
-fn next_due(l: Lineup, p: Pending) -> Due
-    ensures { λ r. ⌜ r ≡ getD (pending l p) 0 Due.Nothing ⌝ }
-{
-    let lead = p.lead;
-    match lead {
-        Lead::None => {
-            if 0 < p.exprs {
-                return Due::Expr;
-            }
-            crate::dues::due_at(l, p.own)
-        }
-        Lead::RoleUse => Due::RoleUse,
-        Lead::AtLeast => Due::AtLeast,
-        Lead::AtMost => Due::AtMost,
-        Lead::Item => Due::Item,
-    }
-}
-
-// What is still due after the next of the line-up's own dues, in a field with the word o.
-fn step_own(l: Lineup, own: usize, o: Operator) -> Pending
-    requires { ⌜ own < plenty ⌝ }
-    ensures { λ r. ⌜ Step l (record { lead = Lead.None; exprs = 0; own = own }) o r ⌝ }
-{
-    if crate::dues::is_expr(crate::dues::due_at(l, own)) {
-        return wants(o, 0, own + 1);
-    }
-    pend(Lead::None, 0, own + 1)
-}
-
-// What is still due after one field more, which has the word o.
-fn step(l: Lineup, p: Pending, o: Operator) -> Pending
-    requires { ⌜ (p .exprs < plenty) × (p .own < plenty) ⌝ }
-    ensures { λ r. ⌜ Step l p o r ⌝ }
-{
-    let lead = p.lead;
-    let exprs = p.exprs;
-    let own = p.own;
-    match lead {
-        Lead::None => {
-            if 0 < exprs {
-                return wants(o, exprs - 1, own);
-            }
-            step_own(l, own, o)
-        }
-        Lead::RoleUse => pend(Lead::None, exprs, own),
-        Lead::AtLeast => pend(Lead::RoleUse, exprs, own),
-        Lead::AtMost => pend(Lead::RoleUse, exprs, own),
-        Lead::Item => pend(Lead::None, exprs, own),
-    }
-}
-
-// The nodes that a word of an expression stands for.
-fn nodes_of(o: Operator) -> usize
-    ensures { λ r. ⌜ (r ≡ nodesOf o) × (r ≤ 4) ⌝ }
-{
-    match o {
-        Operator::And => 1,
-        Operator::Or => 4,
-        Operator::Not => 1,
-        Operator::Some => 1,
-        Operator::All => 3,
-        Operator::AtLeast => 1,
-        Operator::AtMost => 2,
-        Operator::SelfOf => 1,
-        Operator::One => 1,
-        Operator::Top => 1,
-        Operator::Bot => 2,
-        Operator::None => 1,
-    }
-}
-
-// The nodes of a field in which d is due, and which has the word o.
-fn due_nodes(d: Due, o: Operator) -> usize
-    ensures { λ r. ⌜ (r ≡ cond (isExpr d) (nodesOf o) 0) × (r ≤ 4) ⌝ }
-{
-    if crate::dues::is_expr(d) {
-        return nodes_of(o);
-    }
-    0
-}
-
-// The word that a field is, asked only where an expression is due.
-fn word_in(d: Due, f: &[u8]) -> Operator
-    ensures { λ r. ⌜ r ≡ cond (isExpr d) (operatorOf (now (f .entry))) Operator.None ⌝ }
-{
-    if crate::dues::is_expr(d) {
-        return field::words::operator(f);
-    }
-    Operator::None
-}
 
 // What the fields of a line come to, from the one with the number `from` on, where the line-up is due.
 pub fn walk(
@@ -175,27 +25,27 @@ pub fn walk(
     ensures { λ r. ⌜ WalkedBy (namesOf (now (sheet .entry)) (tableOf (now (names .entry)) counts)) (dues l) (drop from (fields (now (line .entry)))) r ⌝ }
 {
     let mut k = from;
-    let mut p = pend(Lead::None, 0, 0);
+    let mut p = due::ahead::pend(Lead::None, 0, 0);
     let mut fault = 0;
     let mut nodes = 0;
     while k < ends.len() {
-        if none_left(l, p) {
+        if due::ahead::none_left(l, p) {
             return Walked {
                 fits: false,
                 fault,
                 nodes,
             };
         }
-        let f = text::scan::field(line, ends, k);
-        let d = next_due(l, p);
-        let o = word_in(d, f);
+        let f = reader::scan::field(line, ends, k);
+        let d = due::ahead::next_due(l, p);
+        let o = due::ahead::word_in(d, f);
         fault = crate::faults::lower(fault, crate::faults::field(sheet, names, counts, d, f));
-        nodes += due_nodes(d, o);
-        p = step(l, p, o);
+        nodes += due::ahead::due_nodes(d, o);
+        p = due::ahead::step(l, p, o);
         k += 1;
     }
     Walked {
-        fits: none_left(l, p),
+        fits: due::ahead::none_left(l, p),
         fault,
         nodes,
     }

@@ -1,7 +1,4 @@
--- Queries. Definitions here, in the order of document 01; what is proved of them in laws, what only the code speaks of in own.
-pub mod Body
-pub mod Translation
-pub mod Length
+-- Queries. What compiling a rule promises here; what is proved of it in laws, what only the code speaks of in own.
 pub mod Promise
 pub mod own
 pub mod laws

@@ -12,12 +12,9 @@ use Rattle.query.specs.declared.Outcome.{Outcome}
 use Rattle.query.specs.declared.Outcome.the-variants.{Compiled, Refused}
 use Rattle.query.specs.declared.QueryRefusal.{QueryRefusal}
 use Rattle.query.specs.declared.QueryRefusal.the-variants.{Size, Malformed, Number, Long, Room}
-use Rattle.query.specs.Body.{flat, size}
-use Rattle.query.specs.Translation.{answersOf, queryOf}
-
--- the most items of a query
-abbrev pub itemLimit : ℕ
-itemLimit = 512
+use Rattle.body.specs.Body.{flat, size}
+use Rattle.body.specs.Translation.{answersOf, queryOf}
+use Rattle.body.specs.Length.{itemLimit}
 
 -- the number of a refusal
 abbrev pub number : QueryRefusal → ℕ

@@ -1,8 +1,4 @@
--- What is proved of the queries' definitions.
-pub mod Body
-pub mod Length
-pub mod Writing
-pub mod Capped
+-- What is proved of compiling.
 pub mod Filled
 pub mod Small
 pub mod Promise

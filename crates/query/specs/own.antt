@@ -1,2 +1,2 @@
--- How the words of a query are written: no promise of an entry point mentions it.
-pub mod Writing
+-- How a whole query is written: no promise of an entry point mentions it.
+pub mod Filling

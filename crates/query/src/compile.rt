@@ -3,13 +3,14 @@ ghost use mathlib.Core.Path.{_≡_};
 ghost use mathlib.Core.List.{[]};
 ghost use Rattle.store.specs.Layout.{width};
 ghost use Rattle.rule.specs.declared.Head.the-variants as heads;
-ghost use Rattle.query.specs.Translation.{answersOf};
+ghost use Rattle.body.specs.Translation.{answersOf};
 ghost use Rattle.query.specs.Promise.{Compiles};
-ghost use Rattle.query.specs.own.Writing.{Filled, Spacious};
-use crate::Cursor;
+ghost use Rattle.query.specs.own.Filling.{Filled, Spacious};
 use crate::Outcome;
 use crate::Query;
 use crate::QueryRefusal;
+use body::Body;
+use body::Cursor;
 use rule::Head;
 use rule::RoleUse;
 use rule::Rule;
@@ -90,7 +91,7 @@ fn inside(nodes: [Slot; Rule::NODES], c: usize, a: Item, room: &mut [u16])
     ensures { λ r. ⌜ Filled (now (room .entry)) (now (room .exit)) nodes (heads.In c a) ⌝ }
 {
     let open = start(0).open_not(room);
-    let t = crate::write::term(a);
+    let t = body::write::term(a);
     let inner = open.expr(nodes, Rule::NODES, c, t, room);
     inner.close_not(room);
 }
@@ -100,8 +101,8 @@ fn absent(u: RoleUse, a: Item, b: Item, room: &mut [u16])
     requires { ⌜ Spacious (now room) [] (heads.Rel u a b) ⌝ }
     ensures { λ r. ⌜ Filled (now (room .entry)) (now (room .exit)) [] (heads.Rel u a b) ⌝ }
 {
-    let s = crate::write::term(a);
-    let t = crate::write::term(b);
+    let s = body::write::term(a);
+    let t = body::write::term(b);
     start(0).unlinked(room, u, s, t);
 }
 
@@ -110,8 +111,8 @@ fn present(u: RoleUse, a: Item, b: Item, room: &mut [u16])
     requires { ⌜ Spacious (now room) [] (heads.NoRel u a b) ⌝ }
     ensures { λ r. ⌜ Filled (now (room .entry)) (now (room .exit)) [] (heads.NoRel u a b) ⌝ }
 {
-    let s = crate::write::term(a);
-    let t = crate::write::term(b);
+    let s = body::write::term(a);
+    let t = body::write::term(b);
     start(0).link(room, u, s, t);
 }
 
@@ -120,8 +121,8 @@ fn same(a: Item, b: Item, room: &mut [u16])
     requires { ⌜ Spacious (now room) [] (heads.Same a b) ⌝ }
     ensures { λ r. ⌜ Filled (now (room .entry)) (now (room .exit)) [] (heads.Same a b) ⌝ }
 {
-    let s = crate::write::term(a);
-    let t = crate::write::term(b);
+    let s = body::write::term(a);
+    let t = body::write::term(b);
     start(0).unequal(room, s, t);
 }
 
@@ -130,8 +131,8 @@ fn differ(a: Item, b: Item, room: &mut [u16])
     requires { ⌜ Spacious (now room) [] (heads.Differ a b) ⌝ }
     ensures { λ r. ⌜ Filled (now (room .entry)) (now (room .exit)) [] (heads.Differ a b) ⌝ }
 {
-    let s = crate::write::term(a);
-    let t = crate::write::term(b);
+    let s = body::write::term(a);
+    let t = body::write::term(b);
     start(0).equal(room, s, t);
 }
 
@@ -167,19 +168,19 @@ impl Query {
         if !store::size::fits(counts) {
             return Outcome::Refused(QueryRefusal::Size);
         }
-        if !rule::form::well_formed(rule) {
+        if !form::well_formed(rule) {
             return Outcome::Refused(QueryRefusal::Malformed);
         }
-        if !rule::form::rule_within(counts, rule) {
+        if !form::rule_within(counts, rule) {
             return Outcome::Refused(QueryRefusal::Number);
         }
         let head = rule.head;
         let nodes = rule.nodes;
-        let n = crate::length::rule_length(head, nodes);
-        if Query::ITEMS < n {
+        let n = body::length::rule_length(head, nodes);
+        if Body::ITEMS < n {
             return Outcome::Refused(QueryRefusal::Long);
         }
-        if room.len() < Query::WORDS * n {
+        if room.len() < Body::WORDS * n {
             return Outcome::Refused(QueryRefusal::Room);
         }
         fill(head, nodes, room);

@@ -2,11 +2,11 @@
 ghost use Rattle.field.specs.own.Table.{tableOf};
 ghost use Rattle.sheet.specs.own.Pass.{Judges};
 ghost use Rattle.sheet.specs.own.Stands.{Since};
-ghost use Rattle.report.specs.own.Lines.{Filled, JudgedAll};
+ghost use Rattle.report.specs.own.Pages.{Filled, JudgedAll};
 ghost use Rattle.report.specs.Promise.{Pages, PagesIn};
-use crate::Tally;
 use field::Table;
 use line::Sheet;
+use printed::Tally;
 use sheet::Ended;
 use sheet::Start;
 use store::Counts;
@@ -33,7 +33,7 @@ fn judge_all(
     };
     while q.found {
         let u = q.rule;
-        b = crate::print::judge(sheet, names, counts, q.line, n, u, words, room, b);
+        b = printed::judge(sheet, names, counts, q.line, n, u, words, room, b);
         n += 1;
         q = sheet::pass::next(sheet, names, counts, q.past, q.line + 1);
     }
@@ -50,9 +50,9 @@ fn print_ended(sheet: &[u8], e: Ended, names: &[u32], words: &[u64], room: &mut 
         let counts = kept.counts;
         let start = e.start;
         let b = judge_all(sheet, names, counts, start, words, room);
-        return crate::print::total(room, b.at, b.total);
+        return printed::total(room, b.at, b.total);
     }
-    crate::print::refused(room, 0, e.line, e.why)
+    printed::refused(room, 0, e.line, e.why)
 }
 
 // Reads a sheet into the lent store and writes the text for it, as far as the room reaches; gives the length of the whole text.
@@ -60,7 +60,7 @@ pub fn page_in(sheet: &[u8], words: &mut [u64], room: &mut [u8]) -> usize
     ensures { λ r. ⌜ PagesIn (now (sheet .entry)) (now (words .entry)) (now (words .exit)) (now (room .entry)) (now (room .exit)) r ⌝ }
 {
     if words.len() != Store::WORDS {
-        return crate::print::refused(room, 0, 0, 1);
+        return printed::refused(room, 0, 0, 1);
     }
     let mut names = [0u32; Table::NUMBERS];
     let e = sheet::sheets::fill(sheet, words, &mut names);

@@ -1,8 +1,7 @@
--- Rules by number. Definitions here, in the order of document 01; the code's own records in own, what is proved in laws.
+-- Rules by number. Definitions here, in the order of document 01; what is proved in laws.
 pub mod Form
 pub mod Expr
 pub mod Meaning
 pub mod Breaks
 pub mod Findings
-pub mod own
 pub mod laws

@@ -1,9 +1,7 @@
 -- What is proved of the rules' definitions.
-pub mod Form
 pub mod Tree
 pub mod Articles
 pub mod Told
 pub mod Short
 pub mod Findings
 pub mod Few
-pub mod Packed

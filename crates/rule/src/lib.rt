@@ -1,7 +1,5 @@
-// Rules by number: their form, what they mean, and what breaks them. Nothing here reads a store.
-pub mod form;
+// Rules by number: what they are, what they mean, and what breaks them. Nothing here reads a store.
 pub mod nodes;
-pub mod packs;
 
 use store::Concept;
 use store::Item;
@@ -68,21 +66,6 @@ impl Rule {
     pub const SHORTEST: usize = 2;
 
     pub const LONGEST: usize = 4;
-}
-
-// A node as four numbers: its kind, where a role and its inverse make two, and what it has.
-pub struct Packed {
-    pub kind: usize,
-    pub first: usize,
-    pub second: usize,
-    pub third: usize,
-}
-
-impl Packed {
-    // How many numbers a node has.
-    pub const NUMBERS: usize = 4;
-    // How many the nodes of a rule have.
-    pub const ROOM: usize = Packed::NUMBERS * Rule::NODES;
 }
 
 // The second item of a finding, or none.

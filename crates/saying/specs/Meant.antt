@@ -13,7 +13,8 @@ use Rattle.field.specs.declared.RuleWord.{RuleWord}
 use Rattle.field.specs.declared.RuleWord.the-variants as rule
 use Rattle.field.specs.Names.{Names}
 use Rattle.field.specs.Words.{Field, at}
-use Rattle.saying.specs.Read.{itemOf, readExpr, roleUseOf}
+use Rattle.saying.specs.Read.{readExpr}
+use Rattle.stated.specs.Stated.{itemOf, roleUseOf}
 
 -- a rule as it is meant: its word with its expressions, roles and items; of a chain the path, and the last role
 pub data Meant : Type 0 where

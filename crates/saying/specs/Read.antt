@@ -1,20 +1,12 @@
--- Concept expressions, rules and statements, read from fields whose names are declared.
+-- Concept expressions and rules, read from fields whose names are declared.
 use mathlib.Core.List.{List, [], _∷_, _++_, map}
 use Prim.Native.Nat.{ℕ, zero, suc, _+_, _-_}
 use lib.ListN.{length, drop, replicate}
 use lib.Seq.{sets}
-use Rattle.text.specs.Bytes.{place}
-use Rattle.store.specs.Cell.{turn}
-use Rattle.store.specs.declared.Concept.{Concept}
-use Rattle.store.specs.declared.Item.{Item}
-use Rattle.store.specs.declared.Role.{Role}
-use Rattle.store.specs.declared.Statement.{Statement}
-use Rattle.store.specs.declared.Statement.the-variants as stated
 use Rattle.rule.specs.declared.Head.{Head}
 use Rattle.rule.specs.declared.Head.the-variants as head
 use Rattle.rule.specs.declared.Node.{Node}
 use Rattle.rule.specs.declared.Node.the-variants as node
-use Rattle.rule.specs.declared.RoleUse.{RoleUse}
 use Rattle.rule.specs.declared.Rule.{Rule}
 use Rattle.rule.specs.declared.Slot.{Slot}
 use Rattle.rule.specs.Expr.{Expr, bot, either, some, every, atMost}
@@ -24,24 +16,9 @@ use Rattle.field.specs.declared.Operator.{Operator}
 use Rattle.field.specs.declared.Operator.the-variants as operator
 use Rattle.field.specs.declared.RuleWord.{RuleWord}
 use Rattle.field.specs.declared.RuleWord.the-variants as rule
-use Rattle.field.specs.declared.StatementWord.{StatementWord}
-use Rattle.field.specs.declared.StatementWord.the-variants as statement
-use Rattle.field.specs.Names.{Names, plain, inverted, countOf}
+use Rattle.field.specs.Names.{Names, countOf}
 use Rattle.field.specs.Words.{Field, at, operatorOf}
-
--- the numbers of names: their places in the order of declaration
-abbrev pub conceptOf : Names → Field → Concept
-conceptOf n f = record { 0 = place f (n .concepts) }
-
-abbrev pub roleOf : Names → Field → Role
-roleOf n f = record { 0 = place f (n .roles) }
-
-abbrev pub itemOf : Names → Field → Item
-itemOf n f = record { 0 = place f (n .items) }
-
--- a role or its inverse
-abbrev pub roleUseOf : Names → Field → RoleUse
-roleUseOf n f = record { role = roleOf n (plain f); inverse = inverted f }
+use Rattle.stated.specs.Stated.{conceptOf, itemOf, roleUseOf}
 
 -- an expression, and the fields after it
 pub record Read : Type 0 where
@@ -141,13 +118,3 @@ ruleOf n rule.Rel fs = bare (head.Rel (roleUseOf n (at 0 fs)) (itemOf n (at 1 fs
 ruleOf n rule.NoRel fs = bare (head.NoRel (roleUseOf n (at 0 fs)) (itemOf n (at 1 fs)) (itemOf n (at 2 fs)))
 ruleOf n rule.Same fs = bare (head.Same (itemOf n (at 0 fs)) (itemOf n (at 1 fs)))
 ruleOf n rule.Differ fs = bare (head.Differ (itemOf n (at 0 fs)) (itemOf n (at 1 fs)))
-
--- ---- the statement of a line
-
--- the statement that the fields after the word say; `~` on one side of `runder`, and not on both, makes it a step to the inverse
-abbrev pub statementOf : Names → StatementWord → List Field → Statement
-statementOf n statement.In fs = stated.In (itemOf n (at 0 fs)) (conceptOf n (at 1 fs))
-statementOf n statement.Rel fs = stated.Link (roleOf n (at 0 fs)) (itemOf n (at 1 fs)) (itemOf n (at 2 fs))
-statementOf n statement.Same fs = stated.Same (itemOf n (at 0 fs)) (itemOf n (at 1 fs))
-statementOf n statement.Under fs = stated.Under (conceptOf n (at 0 fs)) (conceptOf n (at 1 fs))
-statementOf n statement.RoleUnder fs = stated.RoleUnder (roleOf n (plain (at 0 fs))) (turn (inverted (at 0 fs)) (inverted (at 1 fs))) (roleOf n (plain (at 1 fs)))

@@ -1,7 +1,5 @@
 -- What is proved of the statements and rules that lines say.
-pub mod Fields
 pub mod Packed
-pub mod Stated
 pub mod Read
 pub mod Nodes
 pub mod Parse

@@ -7,12 +7,12 @@ ghost use Rattle.rule.specs.Form.{nodeLimit};
 ghost use Rattle.field.specs.Names.{nodesOf};
 ghost use Rattle.field.specs.own.Line.{Looked};
 ghost use Rattle.field.specs.own.Table.{Tidy, namesOf, tableOf};
-ghost use Rattle.rule.specs.own.Packed.{packLimit};
+ghost use Rattle.packed.specs.own.Packed.{packLimit};
 ghost use Rattle.saying.specs.own.Nodes.{Joined, PutAll, ReadsOne, Ready, childrenOf, fillAnd, headFields, headNodes};
 use crate::Parsed;
 use field::Operator;
+use packed::Packed;
 use rule::Node;
-use rule::Packed;
 use store::Counts;
 
 // One node more; gives how many there are.
@@ -20,7 +20,7 @@ fn put(nodes: &mut [usize], len: usize, node: Node) -> usize
     requires { ⌜ (length (now nodes) ≡ packLimit) × (len < nodeLimit) ⌝ }
     ensures { λ r. ⌜ PutAll (now (nodes .entry)) len (node ∷ []) (now (nodes .exit)) r ⌝ }
 {
-    rule::packs::put(nodes, len, node);
+    packed::put(nodes, len, node);
     len + 1
 }
 
@@ -85,7 +85,7 @@ fn put_some(
     requires { ⌜ Tidy (now sheet) (tableOf (now names) counts) × Looked (now line) (now ends) × (length (now nodes) ≡ packLimit) × (i < nodeLimit) × (k < length (now ends)) ⌝ }
     ensures { λ r. ⌜ PutAll (now (nodes .entry)) i (headNodes (namesOf (now (sheet .entry)) (tableOf (now (names .entry)) counts)) Operator.Some i (drop k (fields (now (line .entry))))) (now (nodes .exit)) r ⌝ }
 {
-    let u = crate::numbers::role_use(sheet, names, counts, line, ends, k + 1);
+    let u = stated::numbers::role_use(sheet, names, counts, line, ends, k + 1);
     put(nodes, i, Node::AtLeast(1, u, i + 1))
 }
 
@@ -103,7 +103,7 @@ fn put_every(
     requires { ⌜ Tidy (now sheet) (tableOf (now names) counts) × Looked (now line) (now ends) × (length (now nodes) ≡ packLimit) × (i + 3 ≤ nodeLimit) × (k < length (now ends)) ⌝ }
     ensures { λ r. ⌜ PutAll (now (nodes .entry)) i (headNodes (namesOf (now (sheet .entry)) (tableOf (now (names .entry)) counts)) Operator.All i (drop k (fields (now (line .entry))))) (now (nodes .exit)) r ⌝ }
 {
-    let u = crate::numbers::role_use(sheet, names, counts, line, ends, k + 1);
+    let u = stated::numbers::role_use(sheet, names, counts, line, ends, k + 1);
     let some = Node::AtLeast(1, u, i + 2);
     put_three(nodes, i, Node::Not(i + 1), some, Node::Not(i + 3))
 }
@@ -122,8 +122,8 @@ fn put_at_least(
     requires { ⌜ Tidy (now sheet) (tableOf (now names) counts) × Looked (now line) (now ends) × (length (now nodes) ≡ packLimit) × (i < nodeLimit) × (k < length (now ends)) ⌝ }
     ensures { λ r. ⌜ PutAll (now (nodes .entry)) i (headNodes (namesOf (now (sheet .entry)) (tableOf (now (names .entry)) counts)) Operator.AtLeast i (drop k (fields (now (line .entry))))) (now (nodes .exit)) r ⌝ }
 {
-    let u = crate::numbers::role_use(sheet, names, counts, line, ends, k + 2);
-    let m = field::names::count(crate::numbers::nth(line, ends, k + 1));
+    let u = stated::numbers::role_use(sheet, names, counts, line, ends, k + 2);
+    let m = field::names::count(stated::numbers::nth(line, ends, k + 1));
     put(nodes, i, Node::AtLeast(m, u, i + 1))
 }
 
@@ -141,8 +141,8 @@ fn put_at_most(
     requires { ⌜ Tidy (now sheet) (tableOf (now names) counts) × Looked (now line) (now ends) × (length (now nodes) ≡ packLimit) × (i + 2 ≤ nodeLimit) × (k < length (now ends)) ⌝ }
     ensures { λ r. ⌜ PutAll (now (nodes .entry)) i (headNodes (namesOf (now (sheet .entry)) (tableOf (now (names .entry)) counts)) Operator.AtMost i (drop k (fields (now (line .entry))))) (now (nodes .exit)) r ⌝ }
 {
-    let u = crate::numbers::role_use(sheet, names, counts, line, ends, k + 2);
-    let m = field::names::count(crate::numbers::nth(line, ends, k + 1));
+    let u = stated::numbers::role_use(sheet, names, counts, line, ends, k + 2);
+    let m = field::names::count(stated::numbers::nth(line, ends, k + 1));
     put_two(nodes, i, Node::Not(i + 1), Node::AtLeast(m + 1, u, i + 2))
 }
 
@@ -170,17 +170,17 @@ fn put_head(
         Operator::AtLeast => put_at_least(sheet, names, counts, line, ends, nodes, i, k),
         Operator::AtMost => put_at_most(sheet, names, counts, line, ends, nodes, i, k),
         Operator::SelfOf => {
-            let u = crate::numbers::role_use(sheet, names, counts, line, ends, k + 1);
+            let u = stated::numbers::role_use(sheet, names, counts, line, ends, k + 1);
             put(nodes, i, Node::SelfOf(u))
         }
         Operator::One => {
-            let a = crate::numbers::item(sheet, names, counts, line, ends, k + 1);
+            let a = stated::numbers::item(sheet, names, counts, line, ends, k + 1);
             put(nodes, i, Node::One(a))
         }
         Operator::Top => put(nodes, i, Node::Top),
         Operator::Bot => put_two(nodes, i, Node::Not(i + 1), Node::Top),
         Operator::None => {
-            let a = crate::numbers::concept(sheet, names, counts, line, ends, k);
+            let a = stated::numbers::concept(sheet, names, counts, line, ends, k);
             put(nodes, i, Node::Name(a))
         }
     }
@@ -258,7 +258,7 @@ pub fn read_expr(
     if left == 0 {
         return p;
     }
-    let o = field::words::operator(crate::numbers::nth(line, ends, p.at));
+    let o = field::words::operator(stated::numbers::nth(line, ends, p.at));
     let len = put_head(sheet, names, counts, line, ends, nodes, p.len, p.at, o);
     let word = Parsed {
         len,

@@ -1,9 +1,7 @@
-// What a line without a fault says: a statement or a rule.
+// What a rule line without a fault says.
 mod expressions;
-mod numbers;
 mod places;
 pub mod rules;
-pub mod statements;
 
 // How far the expressions of a line are read: how many nodes are written so far, and the number of the field past them.
 struct Parsed {

@@ -3,7 +3,7 @@ ghost use mathlib.Core.Path.{_≡_};
 ghost use Prim.Native.Nat.{_≤_};
 ghost use lib.ListN.{length};
 ghost use Rattle.rule.specs.Form.{nodeLimit};
-ghost use Rattle.rule.specs.own.Packed.{packLimit, unpacked};
+ghost use Rattle.packed.specs.own.Packed.{packLimit, unpacked};
 ghost use Rattle.saying.specs.Read.{blank as blankSlots, laid};
 use rule::Node;
 use rule::Rule;
@@ -25,7 +25,7 @@ pub fn unpack(numbers: &[usize], len: usize) -> [Slot; Rule::NODES]
     let mut i = 0;
     while i < len {
         nodes[i] = Slot {
-            node: rule::packs::node_at(numbers, i),
+            node: packed::node_at(numbers, i),
         };
         i += 1;
     }

@@ -8,8 +8,8 @@ ghost use Rattle.saying.specs.own.Nodes.{RuleReady};
 ghost use Rattle.saying.specs.Read.{bare as bareRule, chainOf, ruleOf};
 use crate::Parsed;
 use field::RuleWord;
+use packed::Packed;
 use rule::Head;
-use rule::Packed;
 use rule::Rule;
 use store::Counts;
 
@@ -47,11 +47,11 @@ fn chain(
     ensures { λ r. ⌜ r ≡ chainOf (namesOf (now (sheet .entry)) (tableOf (now (names .entry)) counts)) (drop from (fields (now (line .entry)))) ⌝ }
 {
     let k = count_from(ends, from) - 1;
-    let a = crate::numbers::role_use(sheet, names, counts, line, ends, from);
-    let b = crate::numbers::role_use(sheet, names, counts, line, ends, from + 1);
-    let c = crate::numbers::role_use(sheet, names, counts, line, ends, from + 2);
-    let d = crate::numbers::role_use(sheet, names, counts, line, ends, from + 3);
-    let e = crate::numbers::role_use(sheet, names, counts, line, ends, from + k);
+    let a = stated::numbers::role_use(sheet, names, counts, line, ends, from);
+    let b = stated::numbers::role_use(sheet, names, counts, line, ends, from + 1);
+    let c = stated::numbers::role_use(sheet, names, counts, line, ends, from + 2);
+    let d = stated::numbers::role_use(sheet, names, counts, line, ends, from + 3);
+    let e = stated::numbers::role_use(sheet, names, counts, line, ends, from + k);
     Head::Chain(k, a, b, c, d, e)
 }
 
@@ -67,8 +67,8 @@ fn role_sub(
     requires { ⌜ Tidy (now sheet) (tableOf (now names) counts) × Looked (now line) (now ends) × (from ≤ 2) ⌝ }
     ensures { λ r. ⌜ r ≡ ruleOf (namesOf (now (sheet .entry)) (tableOf (now (names .entry)) counts)) RuleWord.RoleSub (drop from (fields (now (line .entry)))) .head ⌝ }
 {
-    let a = crate::numbers::role_use(sheet, names, counts, line, ends, from);
-    let b = crate::numbers::role_use(sheet, names, counts, line, ends, from + 1);
+    let a = stated::numbers::role_use(sheet, names, counts, line, ends, from);
+    let b = stated::numbers::role_use(sheet, names, counts, line, ends, from + 1);
     Head::RoleSub(a, b)
 }
 
@@ -77,8 +77,8 @@ fn dis(sheet: &[u8], names: &[u32], counts: Counts, line: &[u8], ends: &[u16], f
     requires { ⌜ Tidy (now sheet) (tableOf (now names) counts) × Looked (now line) (now ends) × (from ≤ 2) ⌝ }
     ensures { λ r. ⌜ r ≡ ruleOf (namesOf (now (sheet .entry)) (tableOf (now (names .entry)) counts)) RuleWord.Dis (drop from (fields (now (line .entry)))) .head ⌝ }
 {
-    let a = crate::numbers::role_use(sheet, names, counts, line, ends, from);
-    let b = crate::numbers::role_use(sheet, names, counts, line, ends, from + 1);
+    let a = stated::numbers::role_use(sheet, names, counts, line, ends, from);
+    let b = stated::numbers::role_use(sheet, names, counts, line, ends, from + 1);
     Head::Dis(a, b)
 }
 
@@ -87,9 +87,9 @@ fn rel(sheet: &[u8], names: &[u32], counts: Counts, line: &[u8], ends: &[u16], f
     requires { ⌜ Tidy (now sheet) (tableOf (now names) counts) × Looked (now line) (now ends) × (from ≤ 2) ⌝ }
     ensures { λ r. ⌜ r ≡ ruleOf (namesOf (now (sheet .entry)) (tableOf (now (names .entry)) counts)) RuleWord.Rel (drop from (fields (now (line .entry)))) .head ⌝ }
 {
-    let u = crate::numbers::role_use(sheet, names, counts, line, ends, from);
-    let a = crate::numbers::item(sheet, names, counts, line, ends, from + 1);
-    let b = crate::numbers::item(sheet, names, counts, line, ends, from + 2);
+    let u = stated::numbers::role_use(sheet, names, counts, line, ends, from);
+    let a = stated::numbers::item(sheet, names, counts, line, ends, from + 1);
+    let b = stated::numbers::item(sheet, names, counts, line, ends, from + 2);
     Head::Rel(u, a, b)
 }
 
@@ -105,9 +105,9 @@ fn no_rel(
     requires { ⌜ Tidy (now sheet) (tableOf (now names) counts) × Looked (now line) (now ends) × (from ≤ 2) ⌝ }
     ensures { λ r. ⌜ r ≡ ruleOf (namesOf (now (sheet .entry)) (tableOf (now (names .entry)) counts)) RuleWord.NoRel (drop from (fields (now (line .entry)))) .head ⌝ }
 {
-    let u = crate::numbers::role_use(sheet, names, counts, line, ends, from);
-    let a = crate::numbers::item(sheet, names, counts, line, ends, from + 1);
-    let b = crate::numbers::item(sheet, names, counts, line, ends, from + 2);
+    let u = stated::numbers::role_use(sheet, names, counts, line, ends, from);
+    let a = stated::numbers::item(sheet, names, counts, line, ends, from + 1);
+    let b = stated::numbers::item(sheet, names, counts, line, ends, from + 2);
     Head::NoRel(u, a, b)
 }
 
@@ -116,8 +116,8 @@ fn same(sheet: &[u8], names: &[u32], counts: Counts, line: &[u8], ends: &[u16], 
     requires { ⌜ Tidy (now sheet) (tableOf (now names) counts) × Looked (now line) (now ends) × (from ≤ 2) ⌝ }
     ensures { λ r. ⌜ r ≡ ruleOf (namesOf (now (sheet .entry)) (tableOf (now (names .entry)) counts)) RuleWord.Same (drop from (fields (now (line .entry)))) .head ⌝ }
 {
-    let a = crate::numbers::item(sheet, names, counts, line, ends, from);
-    let b = crate::numbers::item(sheet, names, counts, line, ends, from + 1);
+    let a = stated::numbers::item(sheet, names, counts, line, ends, from);
+    let b = stated::numbers::item(sheet, names, counts, line, ends, from + 1);
     Head::Same(a, b)
 }
 
@@ -133,8 +133,8 @@ fn differ(
     requires { ⌜ Tidy (now sheet) (tableOf (now names) counts) × Looked (now line) (now ends) × (from ≤ 2) ⌝ }
     ensures { λ r. ⌜ r ≡ ruleOf (namesOf (now (sheet .entry)) (tableOf (now (names .entry)) counts)) RuleWord.Differ (drop from (fields (now (line .entry)))) .head ⌝ }
 {
-    let a = crate::numbers::item(sheet, names, counts, line, ends, from);
-    let b = crate::numbers::item(sheet, names, counts, line, ends, from + 1);
+    let a = stated::numbers::item(sheet, names, counts, line, ends, from);
+    let b = stated::numbers::item(sheet, names, counts, line, ends, from + 1);
     Head::Differ(a, b)
 }
 
@@ -199,7 +199,7 @@ fn in_rule(
         none,
         left,
     );
-    let item = crate::numbers::item(sheet, names, counts, line, ends, first.at);
+    let item = stated::numbers::item(sheet, names, counts, line, ends, first.at);
     Rule {
         head: Head::In(0, item),
         len: first.len,
@@ -225,11 +225,11 @@ pub fn rule_of(
         RuleWord::RoleSub => bare(role_sub(sheet, names, counts, line, ends, from)),
         RuleWord::Chain => bare(chain(sheet, names, counts, line, ends, from)),
         RuleWord::Ref => {
-            let u = crate::numbers::role_use(sheet, names, counts, line, ends, from);
+            let u = stated::numbers::role_use(sheet, names, counts, line, ends, from);
             bare(Head::Ref(u))
         }
         RuleWord::Irr => {
-            let u = crate::numbers::role_use(sheet, names, counts, line, ends, from);
+            let u = stated::numbers::role_use(sheet, names, counts, line, ends, from);
             bare(Head::Irr(u))
         }
         RuleWord::Dis => bare(dis(sheet, names, counts, line, ends, from)),

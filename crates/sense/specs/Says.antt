@@ -8,7 +8,7 @@ use lib.ListN.{length, getD}
 use Rattle.store.specs.declared.Counts.{Counts}
 use Rattle.store.specs.Cell.{Cell, DeclaredItem}
 use Rattle.store.specs.Cell.Cell.{Same, In, Link}
-use Rattle.query.specs.Body.{firstItem, Atom, isA, rel, eq, Body, end, atom, not, reads, whole}
+use Rattle.body.specs.Body.{firstItem, Atom, isA, rel, eq, Body, end, atom, not, reads, whole}
 
 -- an item for each variable
 abbrev pub Values : Type 0

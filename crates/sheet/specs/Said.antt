@@ -13,10 +13,12 @@ use Rattle.rule.specs.declared.Rule.{Rule}
 use Rattle.field.specs.declared.Form.{Form}
 use Rattle.field.specs.declared.Form.the-variants as form
 use Rattle.line.specs.declared.Marks.{Marks}
-use Rattle.line.specs.Fault.{headerFault, lineFault, none, sheetLimit}
+use Rattle.field.specs.Due.{none}
+use Rattle.line.specs.Fault.{headerFault, lineFault, sheetLimit}
 use Rattle.field.specs.Names.{Names}
 use Rattle.field.specs.Words.{at, Field, formOf, bodyOf}
-use Rattle.saying.specs.Read.{ruleOf, statementOf}
+use Rattle.saying.specs.Read.{ruleOf}
+use Rattle.stated.specs.Stated.{statementOf}
 
 -- a rule of a sheet, and the number of its line
 pub record SheetRule : Type 0 where

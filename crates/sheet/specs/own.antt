@@ -1,4 +1,3 @@
 -- The code's own records, which no promise mentions.
 pub mod Stands
-pub mod Quick
 pub mod Pass

@@ -1,7 +1,6 @@
 // Whole sheets: what their lines say one after the other, reading them into a lent store, and their rules a second time.
 mod keeping;
 pub mod pass;
-mod quick;
 pub mod reads;
 pub mod sheets;
 mod taking;
@@ -11,18 +10,11 @@ use field::Table;
 use line::Marks;
 use rule::Rule;
 use store::Counts;
-use store::Statement;
 
 // What is kept of the lines read so far: how many names are declared, and how far the sheet has come.
 pub struct Kept {
     pub counts: Counts,
     pub marks: Marks,
-}
-
-// A line as a statement: whether it is told to be one with nothing wrong, and the statement.
-struct StatementLine {
-    found: bool,
-    statement: Statement,
 }
 
 // What reading a line gives: its number of refusal or 0, and what is kept then.

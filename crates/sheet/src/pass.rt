@@ -68,7 +68,7 @@ pub fn next(sheet: &[u8], names: &[u32], counts: Counts, from: usize, first: usi
     let mut at = from;
     let mut line = first;
     while at <= sheet.len() {
-        let s = text::line::look_from(sheet, at, &mut ends);
+        let s = reader::line::look_from(sheet, at, &mut ends);
         let end = s.end;
         let n = row::number::lesser(s.count, Sheet::FIELDS);
         let q = rule_in(

@@ -48,7 +48,7 @@ fn read_lines(sheet: &[u8], words: &mut [u64], names: &mut [u32], from: usize) -
     let mut kept = blank();
     let mut start = Start { at, line };
     while at <= sheet.len() {
-        let s = text::line::look_from(sheet, at, &mut ends);
+        let s = reader::line::look_from(sheet, at, &mut ends);
         let end = s.end;
         let n = row::number::lesser(s.count, Sheet::FIELDS);
         let r = crate::taking::read(

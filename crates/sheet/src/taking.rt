@@ -3,10 +3,11 @@ ghost use mathlib.Core.Bool.{false};
 ghost use Prim.Native.Nat.{_+_, _<_};
 ghost use lib.ListN.{length, replicate};
 ghost use Rattle.text.specs.Split.{fields};
-ghost use Rattle.text.specs.own.Scan.{startBy};
+ghost use Rattle.reader.specs.own.Scan.{startBy};
 ghost use Rattle.store.specs.Cell.{Within, cellOf};
 ghost use Rattle.store.specs.Layout.{Fits, size, width};
-ghost use Rattle.line.specs.Fault.{begun, none, ruleLimit};
+ghost use Rattle.field.specs.Due.{none};
+ghost use Rattle.line.specs.Fault.{begun, ruleLimit};
 ghost use Rattle.sheet.specs.own.Stands.{Adding, Begins, Came, Comes, Declaration, Standing, TakenOther, TakesOther, oneRule, oneStated};
 ghost use Rattle.field.specs.own.Table.{Noted, entryOf, hintAt, hintsFrom, numberCount, placeCount, tableOf};
 ghost use Rattle.field.specs.own.Line.{Looked};
@@ -54,8 +55,8 @@ fn declare(names: &mut [u32], from: usize, n: usize, start: usize, line: &[u8], 
     requires { ⌜ (length (now names) ≡ numberCount) × (from + n < hintsFrom) × Looked (now line) (now ends) × Declaration (now line) × (start + length (now line) < placeCount) ⌝ }
     ensures { λ _. ⌜ Noted (now (names .entry)) (from + n) (entryOf (fieldOf 1 (fields (now (line .entry)))) (start + startBy 0 (now (ends .entry)) 1)) (hintAt from (fieldOf 1 (fields (now (line .entry))))) (now (names .exit)) ⌝ }
 {
-    let place = start + text::scan::start(ends, 1);
-    field::tables::note(names, from, n, place, text::scan::field(line, ends, 1));
+    let place = start + reader::scan::start(ends, 1);
+    field::tables::note(names, from, n, place, reader::scan::field(line, ends, 1));
 }
 
 // Takes a line that is not empty and no statement, and has no fault; it starts at a place of a sheet.
@@ -130,7 +131,7 @@ pub fn read(
 {
     let counts = k.counts;
     let marks = k.marks;
-    let q = crate::quick::statement_in(sheet, names, counts, marks, line, good, ends);
+    let q = quick::statement_in(sheet, names, counts, marks, line, good, ends);
     if q.found {
         let s = q.statement;
         let kept = add(words, k, s);

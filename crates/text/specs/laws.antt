@@ -6,6 +6,3 @@ pub mod Name
 pub mod Text
 pub mod Dates
 pub mod Chunk
-pub mod Ends
-pub mod Scan
-pub mod Mask

@@ -1,4 +1,3 @@
 -- What the functions on bytes do: no promise of an entry point mentions it.
 pub mod Split
 pub mod Chunk
-pub mod Scan

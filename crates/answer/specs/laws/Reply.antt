@@ -21,7 +21,7 @@ use Rattle.field.specs.Names.{Names, countsOf}
 use Rattle.sheet.specs.own.Pass.{Judges}
 use Rattle.sheet.specs.Promise.{refusedText}
 use Rattle.sheet.specs.Said.{Said, SheetStatement, lineOf, outcome}
-use Rattle.saying.specs.Read.{statementOf}
+use Rattle.stated.specs.Stated.{statementOf}
 use Rattle.sheet.specs.Said.Outcome.{accepted}
 use Rattle.sheet.specs.own.Stands.{Opens, keptTable}
 use Rattle.field.specs.own.Table.{Table, namesOf}
@@ -35,15 +35,17 @@ use Rattle.why.specs.Reason.{FollowsFrom, Reason}
 use Rattle.why.specs.laws.Explained.{opens-counts}
 use Rattle.why.specs.laws.Few.{statements-few}
 use Rattle.finding.specs.laws.Finding.{broken-in}
-use Rattle.answer.specs.declared.Absent.{Absent}
-use Rattle.answer.specs.declared.CellAsked.{CellAsked}
+use Rattle.cited.specs.declared.Absent.{Absent}
+use Rattle.question.specs.declared.CellAsked.{CellAsked}
 use Rattle.answer.specs.declared.FindingAsked.{FindingAsked}
-use Rattle.answer.specs.own.Asked.{Asking, FindingIf, FindingIn}
+use Rattle.question.specs.own.Asked.{Asking}
+use Rattle.answer.specs.own.Asked.{FindingIf, FindingIn}
 use Rattle.answer.specs.Promise.{Fitted, Replies}
 use Rattle.answer.specs.Promise.Answers.{not-true, found, not-broken, broken, refused}
-use Rattle.answer.specs.Question.{AsksCell, AsksFinding, aboutFinding, bare}
-use Rattle.answer.specs.Text.{absentText, reasonText}
-use Rattle.answer.specs.own.Writing.{Accepted, CellReply, FindingReply, Known, ReasonFits, ReasonSaid, absentIf}
+use Rattle.question.specs.Question.{AsksCell, AsksFinding, aboutFinding, bare}
+use Rattle.cited.specs.Text.{absentText, reasonText}
+use Rattle.cited.specs.own.Writing.{Accepted, absentIf}
+use Rattle.answer.specs.own.Reply.{CellReply, FindingReply, Known, ReasonFits, ReasonSaid}
 
 -- ---- the room
 

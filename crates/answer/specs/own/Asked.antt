@@ -1,4 +1,4 @@
--- How a question is taken apart.
+-- The finding that a question asks for.
 use mathlib.Core.Path.{_≡_}
 use mathlib.Core.Bool.{Bool, true, false}
 use mathlib.Core.List.{List}
@@ -6,35 +6,14 @@ use Prim.Native.Nat.{ℕ}
 use Rattle.text.specs.Bytes.{same}
 use Rattle.text.specs.Text.{decimal}
 use Rattle.store.specs.declared.Counts.{Counts}
-use Rattle.store.specs.Cell.{Cell, cellOf}
 use Rattle.field.specs.own.Table.{Table}
-use Rattle.field.specs.declared.Form.{Form}
-use Rattle.field.specs.declared.Form.the-variants as form
-use Rattle.field.specs.Names.{Names}
 use Rattle.sheet.specs.Said.{Said, lineOf}
-use Rattle.saying.specs.Read.{statementOf}
 use Rattle.field.specs.Words.{Field}
 use Rattle.finding.specs.declared.Sides.{Sides}
 use Rattle.finding.specs.Finding.{BrokenSub}
 use Rattle.finding.specs.own.Sides.{Breaking}
-use Rattle.answer.specs.declared.CellAsked.{CellAsked}
 use Rattle.answer.specs.declared.FindingAsked.{FindingAsked}
-use Rattle.answer.specs.Question.{AsksCell, AsksFinding}
-
--- the cell that a line of this form states, if it is that of a statement
-abbrev pub FormAsked : Names → Form → List Field → CellAsked → Type 0
-FormAsked n form.Concept fs r = r .asked ≡ false
-FormAsked n form.Role fs r = r .asked ≡ false
-FormAsked n form.Item fs r = r .asked ≡ false
-FormAsked n (form.Statement w) fs r = r ≡ record { asked = true; cell = statementOf n w fs }
-FormAsked n (form.Rule w) fs r = r .asked ≡ false
-FormAsked n form.Bare fs r = r .asked ≡ false
-FormAsked n form.Unknown fs r = r .asked ≡ false
-
--- the cell that a question asks for, or it asks for none
-abbrev pub Asking : Bool → Names → List ℕ → CellAsked → Type 0
-Asking true n q r = AsksCell n q (cellOf (r .cell))
-Asking false n q r = (c : Cell) → ¬ (AsksCell n q c)
+use Rattle.question.specs.Question.{AsksFinding}
 
 -- the rule k of the sheet x is in the line whose number the field f says, and the item a breaks it in the store s; it has concept names on both sides
 pub record BrokenIn (n : Counts) (x : Said) (s : List ℕ) (f : Field) (a c d : ℕ) : Type 0 where

@@ -11,8 +11,9 @@ use Rattle.rule.specs.declared.Head.the-variants.{Sub, RoleSub, Chain, Ref, Irr
 use Rattle.rule.specs.declared.Rule.{Rule}
 use Rattle.query.specs.declared.Outcome.{Outcome}
 use Rattle.query.specs.declared.Outcome.the-variants.{Compiled}
-use Rattle.query.specs.Translation.{answersOf}
-use Rattle.query.specs.Promise.{itemLimit, Compiles}
+use Rattle.body.specs.Translation.{answersOf}
+use Rattle.body.specs.Length.{itemLimit}
+use Rattle.query.specs.Promise.{Compiles}
 use Rattle.query.specs.Promise.Compiles.{refused, compiled}
 use Rattle.query.specs.laws.Promise.{compiles-unique}
 use Rattle.coded.specs.Promise.{CompileCode, outcomeCode}

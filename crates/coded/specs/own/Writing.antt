@@ -12,7 +12,7 @@ use Rattle.judge.specs.Promise.{number}
 use Rattle.judge.specs.own.Search.{Met}
 use Rattle.query.specs.declared.Outcome.{Outcome}
 use Rattle.query.specs.declared.Outcome.the-variants as outcome
-use Rattle.query.specs.Promise.{itemLimit}
+use Rattle.body.specs.Length.{itemLimit}
 use Rattle.coded.specs.Promise.{pairWords}
 
 -- n findings are written into the words l, from their start: the search that began at first stands at c, and the words are m

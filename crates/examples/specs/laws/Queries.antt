@@ -11,12 +11,12 @@ use Rattle.rule.specs.Form.{CountFits, NodeWithin, RuleWithin, UsesLater, WellF
 use Rattle.query.specs.declared.Outcome.{Outcome}
 use Rattle.query.specs.declared.Outcome.the-variants.{Compiled, Refused}
 use Rattle.query.specs.declared.QueryRefusal.the-variants.{Room}
-use Rattle.query.specs.Body.{size}
-use Rattle.query.specs.Length.{lengthOf, headLength}
+use Rattle.body.specs.Body.{size}
+use Rattle.body.specs.Length.{lengthOf, headLength}
 use Rattle.query.specs.Promise.{Compiles}
 use Rattle.query.specs.Promise.Compiles.{compiled, refused}
-use Rattle.query.specs.Translation.{answersOf, queryOf}
-use Rattle.query.specs.laws.Length.{head-length}
+use Rattle.body.specs.Translation.{answersOf, queryOf}
+use Rattle.body.specs.laws.Length.{head-length}
 use Rattle.query.specs.laws.Promise.{compiles-unique, refused-6}
 use Rattle.examples.specs.Examples.{BladesFit}
 use Rattle.examples.specs.laws.AtLeast.{expr-left, expr-right}

@@ -8,9 +8,9 @@ use lib.Dec.{eqb}
 use lib.ListN.{length, take}
 use lib.Seq.{getD-take, length-sets, length-take-le}
 use Rattle.text.specs.Split.{fields, split}
-use Rattle.text.specs.declared.scan.Scan.{Scan}
-use Rattle.text.specs.own.Scan.{Scanned, endsOf, lineAt}
-use Rattle.text.specs.laws.Ends.{ends-count, scanned-ended}
+use Rattle.reader.specs.declared.scan.Scan.{Scan}
+use Rattle.reader.specs.own.Scan.{Scanned, endsOf, lineAt}
+use Rattle.reader.specs.laws.Ends.{ends-count, scanned-ended}
 use Rattle.field.specs.own.Line.{Looked}
 
 -- a line has one field more than bytes at most

@@ -15,8 +15,9 @@ use Rattle.logic.specs.Number.Distinct.{none, more}
 use Rattle.logic.specs.laws.Number.{one-cases, one-none}
 use Rattle.text.specs.Bytes.{same, place}
 use Rattle.text.specs.laws.Bytes.{same-true, same-all, place-here, place-none, place-on}
-use Rattle.field.specs.own.Table.{Hinted, Listed, Noted, Placed, entered, hintAt, hintsFrom, nameAt}
+use Rattle.field.specs.own.Table.{Hinted, Listed, Noted, Placed, Table, Tidy, entered, hintAt, hintsFrom, itemsFrom, nameAt, namesOf, rolesFrom}
 use Rattle.field.specs.laws.Tag.{tag-none, tagged-own}
+use Rattle.field.specs.Names.{countsOf}
 use Rattle.field.specs.Words.{Field}
 
 -- ---- lists of names
@@ -111,6 +112,15 @@ module _ (sheet numbers : List ℕ) (from n : ℕ) (room : from + n ≤ length n
   -- a place below n whose entry has the name
   pub hinted : (w : Field) (k : ℕ) → k < n → Distinct (entered sheet numbers from n) → same w (nameAt sheet (getD numbers (from + k) 0)) ≡ true → Placed w (entered sheet numbers from n) n k
   hinted w k h d e = record { place = place-there w k d (omega (arith, entered-length)) (rw (entered-at k h) e); count = entered-length }
+
+-- the names are as many as the table counts
+pub counts-of : (sheet : List ℕ) (t : Table) → Tidy sheet t → countsOf (namesOf sheet t) ≡ t .counts
+counts-of sheet t y =
+    rw (
+      entered-length sheet (t .numbers) itemsFrom (t .counts .items) (omega (arith, y .long, y .room .items)),
+      entered-length sheet (t .numbers) 0 (t .counts .concepts) (omega (arith, y .long, y .room .concepts)),
+      entered-length sheet (t .numbers) rolesFrom (t .counts .roles) (omega (arith, y .long, y .room .roles)),
+    )
 
 append-map : (f : ℕ → Field) (xs ys : List ℕ) → map f (xs ++ ys) ≡ map f xs ++ map f ys
 append-map f [] ys = refl

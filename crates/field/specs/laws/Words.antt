@@ -9,7 +9,8 @@ use lib.Dec.{eqb, leb·suc-suc, ltb}
 use lib.ListN.{length, drop}
 use Rattle.text.specs.Bytes.{bytes, every, place, same}
 use Rattle.text.specs.Split.{fields}
-use Rattle.text.specs.laws.Split.{parts-all, fields-next}
+use Rattle.text.specs.laws.Split.{parts-all}
+use Rattle.reader.specs.laws.Field.{fields-next}
 use Rattle.field.specs.declared.Form.{Form}
 use Rattle.field.specs.declared.Form.the-variants as form
 use Rattle.field.specs.declared.Operator.{Operator}

@@ -1,8 +1,9 @@
 -- What a line without a fault is known to have. Assumes nothing.
-use mathlib.Core.Path.{_≡_}
+use mathlib.Core.Path.{_≡_, refl}
 use mathlib.Core.Bool.{false, not}
-use mathlib.Core.List.{List}
+use mathlib.Core.List.{List, [], _∷_}
 use Prim.Native.Nat.{ℕ, _≤_}
+use native.Mathlib.Omega.{arith}
 use borrow.Author.Tests.{ltb-false, not-false}
 use lib.Dec.{ltb}
 use lib.ListN.{length}
@@ -12,8 +13,8 @@ use Rattle.text.specs.Split.{fields}
 use Rattle.rule.specs.Form.{nodeLimit}
 use Rattle.field.specs.declared.Form.{Form}
 use Rattle.line.specs.declared.Marks.{Marks}
-use Rattle.field.specs.Due.{dues, fits, lineupOf}
-use Rattle.line.specs.Fault.{ended, fieldsFault, formFault, full, lineFault, lineLimit, none, unknown}
+use Rattle.field.specs.Due.{dues, fits, lineupOf, none}
+use Rattle.line.specs.Fault.{ended, fieldsFault, formFault, full, lineFault, lineLimit, unknown}
 use Rattle.field.specs.Names.{Names, fault, fieldFaults, lowerFault, nodesIn}
 use Rattle.field.specs.Words.{at, Field, bodyOf, formOf, sectionOf}
 use Rattle.field.specs.laws.Right.{Right, fault-none, lower-zeros}
@@ -45,3 +46,8 @@ line-accepted n m l z e =
     let a = fault-none (ltb lineLimit (length l)) 9 (fault (not (every lineByte l)) 10 (formFault n m (formOf (fields l)) (bodyOf (fields l)))) q in
     let b = fault-none (not (every lineByte l)) 9 (formFault n m (formOf (fields l)) (bodyOf (fields l))) (a .1) in
     (ltb-false _ _ (a .0), form-accepted n m (formOf (fields l)) (bodyOf (fields l)) (b .1))
+
+-- it is not too long
+pub right-short : (n : Names) (m : Marks) (l : List ℕ) → lineFault n m l ≡ 0 → length l ≤ lineLimit
+right-short n m [] e = omega arith
+right-short n m (b ∷ l) e = line-accepted n m (b ∷ l) refl e .0

@@ -16,8 +16,8 @@ use Rattle.field.specs.declared.Form.{Form}
 use Rattle.field.specs.declared.Lineup.{Lineup}
 use Rattle.line.specs.declared.Marks.{Marks}
 use Rattle.line.specs.declared.Walked.{Walked}
-use Rattle.field.specs.Due.{dues, lineupOf}
-use Rattle.line.specs.Fault.{ended, fieldsFault, formFault, full, header, headerFault, lineFault, lineLimit, none, unknown}
+use Rattle.field.specs.Due.{dues, lineupOf, none}
+use Rattle.line.specs.Fault.{ended, fieldsFault, formFault, full, header, headerFault, lineFault, lineLimit, unknown}
 use Rattle.field.specs.Names.{Names, fault, fieldFault, lowerFault}
 use Rattle.field.specs.own.Line.{wordsOf}
 use Rattle.field.specs.own.Table.{Listed, Placed, conceptName}

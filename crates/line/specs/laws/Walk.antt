@@ -9,10 +9,10 @@ use Rattle.field.specs.declared.Due.{Due}
 use Rattle.field.specs.declared.Due.the-variants as due
 use Rattle.field.specs.declared.Operator.{Operator}
 use Rattle.field.specs.declared.Operator.the-variants as operator
-use Rattle.field.specs.Due.{fits, isExpr, wanted}
+use Rattle.field.specs.Due.{fits, isExpr, none, wanted}
 use Rattle.field.specs.Names.{Names, fieldFault, fieldFaults, lowerFault, nodesIn, nodesOf}
-use Rattle.line.specs.Fault.{none}
-use Rattle.line.specs.own.Walk.{Stepped, WalkedBy}
+use Rattle.due.specs.own.Pending.{Stepped}
+use Rattle.line.specs.own.Walk.{WalkedBy}
 use Rattle.field.specs.Words.{Field, operatorOf}
 use Rattle.field.specs.laws.Names.{lower-none, lower-first, lower-assoc}
 

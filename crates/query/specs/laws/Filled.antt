@@ -11,15 +11,15 @@ use Rattle.rule.specs.declared.Head.the-variants.{Sub, RoleSub, Chain, Ref, Irr
 use Rattle.rule.specs.declared.RoleUse.{RoleUse}
 use Rattle.rule.specs.declared.Slot.{Slot}
 use Rattle.rule.specs.Expr.{Expr, exprOf}
-use Rattle.query.specs.declared.Cursor.{Cursor}
-use Rattle.query.specs.Body.{firstItem, Body, end, atom, not, _⊕_, flat}
-use Rattle.query.specs.Translation.{link, variables, ofExpr, path, without, bodyOf}
-use Rattle.query.specs.Length.{lengthOf, headLength}
-use Rattle.query.specs.Promise.{itemLimit}
-use Rattle.query.specs.own.Writing.{SmallRole, SmallHead, Wrote, RoomFor, Roomy, Written, RoomyPath, Pathed, Spacious, Filled}
-use Rattle.query.specs.laws.Body.{flat-⊕, length-flat}
-use Rattle.query.specs.laws.Length.{size-path, variables-le}
-use Rattle.query.specs.laws.Writing.{then, wrote-length, expr-words, link-words}
+use Rattle.body.specs.declared.Cursor.{Cursor}
+use Rattle.body.specs.Body.{firstItem, Body, end, atom, not, _⊕_, flat}
+use Rattle.body.specs.Translation.{link, variables, ofExpr, path, without, bodyOf}
+use Rattle.body.specs.Length.{lengthOf, headLength, itemLimit}
+use Rattle.body.specs.own.Writing.{SmallRole, Wrote, RoomFor, Roomy, Written, RoomyPath, Pathed}
+use Rattle.query.specs.own.Filling.{SmallHead, Spacious, Filled}
+use Rattle.body.specs.laws.Body.{flat-⊕, length-flat}
+use Rattle.body.specs.laws.Length.{size-path, variables-le}
+use Rattle.body.specs.laws.Writing.{then, wrote-length, expr-words, link-words}
 
 abbrev opening : List ℕ
 opening = 4 ∷ 0 ∷ 0 ∷ 0 ∷ []

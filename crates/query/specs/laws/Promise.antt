@@ -18,14 +18,16 @@ use Rattle.query.specs.declared.Outcome.{Outcome}
 use Rattle.query.specs.declared.Outcome.the-variants.{Compiled, Refused}
 use Rattle.query.specs.declared.QueryRefusal.{QueryRefusal}
 use Rattle.query.specs.declared.QueryRefusal.the-variants.{Size, Malformed, Number, Long as TooLong, Room}
-use Rattle.query.specs.Body.{flat, size}
-use Rattle.query.specs.Translation.{answersOf, queryOf}
-use Rattle.query.specs.Promise.{itemLimit, number, CompileFault, Compilable, Compiles}
+use Rattle.body.specs.Body.{flat, size}
+use Rattle.body.specs.Translation.{answersOf, queryOf}
+use Rattle.body.specs.Length.{itemLimit}
+use Rattle.query.specs.Promise.{number, CompileFault, Compilable, Compiles}
 use Rattle.query.specs.Promise.CompileFault.{wrong-size, malformed, wrong-number, too-long, no-room}
 use Rattle.query.specs.Promise.Compiles.{refused, compiled}
-use Rattle.query.specs.own.Writing.{Long, Spacious, Filled}
-use Rattle.query.specs.laws.Body.{length-flat}
-use Rattle.query.specs.laws.Length.{head-length}
+use Rattle.body.specs.own.Writing.{Long}
+use Rattle.query.specs.own.Filling.{Spacious, Filled}
+use Rattle.body.specs.laws.Body.{length-flat}
+use Rattle.body.specs.laws.Length.{head-length}
 use Rattle.query.specs.laws.Small.{small-head}
 
 module _ {W : ℕ} {n : Counts} {u : Rule} {room : List ℕ} where

@@ -13,8 +13,9 @@ use Rattle.rule.specs.declared.RoleUse.{RoleUse}
 use Rattle.rule.specs.declared.Rule.{Rule}
 use Rattle.rule.specs.Form.{nodeAt, nodeLimit, HeadFits, UsesLater, CountFits, WellFormed, NodeWithin, HeadWithin, RuleWithin}
 use Rattle.rule.specs.Expr.{Expr, build, exprAt}
-use Rattle.query.specs.Body.{firstItem}
-use Rattle.query.specs.own.Writing.{SmallRole, SmallPath, Small, SmallHead}
+use Rattle.body.specs.Body.{firstItem}
+use Rattle.body.specs.own.Writing.{SmallRole, SmallPath, Small}
+use Rattle.query.specs.own.Filling.{SmallHead}
 use Rattle.store.specs.Cell.{DeclaredItem}
 
 module _ (n : Counts) (f : Fits width n) where

@@ -23,8 +23,9 @@ use Rattle.sheet.specs.own.Stands.{Opens, keptTable}
 use Rattle.field.specs.own.Table.{Table, namesOf}
 use Rattle.sheet.specs.laws.Unique.{prints-unique, reads-unique}
 use Rattle.sheet.specs.laws.Count.{Turn, opens-held, opens-judges, opens-outcome, turn-rules}
-use Rattle.report.specs.declared.Tally.{Tally}
-use Rattle.report.specs.own.Lines.{Filled, JudgedAll, Printed, Tallied}
+use Rattle.printed.specs.declared.Tally.{Tally}
+use Rattle.printed.specs.own.Lines.{Tallied}
+use Rattle.report.specs.own.Pages.{Filled, JudgedAll, Printed}
 use Rattle.report.specs.Promise.{Pages, PagesIn, PrintsIn, ReadInto}
 use Rattle.report.specs.Promise.PrintsIn.{wrong-size, printed}
 use Rattle.report.specs.laws.Printed.{printed-all, printed-more}

@@ -13,10 +13,11 @@ use Rattle.sheet.specs.Promise.FindingsFrom.{none}
 use Rattle.sheet.specs.Promise.Prints.{accepted}
 use Rattle.sheet.specs.Said.{Said, SheetRule, lineOf, outcome}
 use Rattle.sheet.specs.Said.Outcome.{accepted as acceptedSheet}
-use Rattle.report.specs.declared.Tally.{Tally}
-use Rattle.report.specs.own.Lines.{Printed, Tallied, linesText}
+use Rattle.printed.specs.declared.Tally.{Tally}
+use Rattle.printed.specs.own.Lines.{Tallied, linesText}
+use Rattle.report.specs.own.Pages.{Printed}
 use Rattle.sheet.specs.laws.Count.{findings-snoc}
-use Rattle.report.specs.laws.Lines.{findings-more, rule-lines}
+use Rattle.printed.specs.laws.Lines.{findings-more, rule-lines}
 
 -- the line of the rule after the others
 line-at : (done rest : List SheetRule) (r : SheetRule) → getD (map (λ (q : SheetRule). q .line) (done ++ r ∷ rest)) (length done) 0 ≡ r .line

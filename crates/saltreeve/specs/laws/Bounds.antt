@@ -21,7 +21,8 @@ use Rattle.field.specs.declared.Due.the-variants as due
 use Rattle.field.specs.declared.Form.{Form}
 use Rattle.field.specs.declared.Form.the-variants as form
 use Rattle.sheet.specs.declared.Reading.the-variants as reading
-use Rattle.line.specs.Fault.{lineFault, none}
+use Rattle.field.specs.Due.{none}
+use Rattle.line.specs.Fault.{lineFault}
 use Rattle.field.specs.Names.{countsOf}
 use Rattle.sheet.specs.Promise.{Reads}
 use Rattle.sheet.specs.Promise.Reads.{wrong-size, refused as refusedRead}

@@ -21,7 +21,8 @@ use Rattle.field.specs.declared.RuleWord.the-variants as rule
 use Rattle.field.specs.Due.{chainLongest, chainShortest, dues, fits, isExpr, ruleLineup}
 use Rattle.field.specs.Names.{Names, countsOf, fieldFault, nodesIn, plain}
 use Rattle.field.specs.Words.{at, Field}
-use Rattle.saying.specs.Read.{bare, itemOf, laid, nodesAt, readExpr, ruleOf, size, withOne, withTwo}
+use Rattle.saying.specs.Read.{bare, laid, nodesAt, readExpr, ruleOf, size, withOne, withTwo}
+use Rattle.stated.specs.Stated.{itemOf}
 use Rattle.field.specs.laws.Right.{Right, item-declared, right-first, role-use-declared}
 use Rattle.saying.specs.laws.Formed.{Each, each-append, each-at, fine-each, laid-node, later-each, once-one, once-two, uses-all, usesIn}
 use Rattle.saying.specs.laws.Nodes.{nodes-length}

@@ -18,7 +18,8 @@ use Rattle.field.specs.declared.RuleWord.the-variants as rule
 use Rattle.field.specs.Due.{chainLongest, chainShortest, dues, fits, ruleLineup}
 use Rattle.field.specs.Names.{Names, nodesIn}
 use Rattle.field.specs.Words.{Field, at}
-use Rattle.saying.specs.Read.{itemOf, laid, nodesAt, readExpr, ruleOf, size, withOne, withTwo}
+use Rattle.saying.specs.Read.{laid, nodesAt, readExpr, ruleOf, size, withOne, withTwo}
+use Rattle.stated.specs.Stated.{itemOf}
 use Rattle.saying.specs.Meant.{meaningOf, meantBy}
 use Rattle.saying.specs.Meant.Meant.{isin, sub}
 use Rattle.saying.specs.laws.Formed.{Each, each-all, each-parts, laid-node}

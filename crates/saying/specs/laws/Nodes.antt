@@ -15,8 +15,8 @@ use Rattle.field.specs.declared.Operator.{Operator}
 use Rattle.field.specs.declared.Operator.the-variants as operator
 use Rattle.field.specs.Names.{Names, countOf}
 use Rattle.saying.specs.own.Nodes.{Joined, PutAll, childrenOf, fillAnd, headFields, headNodes}
-use Rattle.rule.specs.own.Packed.{packWidth, packs}
-use Rattle.rule.specs.laws.Packed.{packs-both}
+use Rattle.packed.specs.own.Packed.{packWidth, packs}
+use Rattle.packed.specs.laws.Packed.{packs-both}
 use Rattle.saying.specs.Read.{Read, byWord, nodesAt, size}
 use Rattle.field.specs.Words.{at, Field}
 

@@ -8,8 +8,8 @@ use lib.ListN.{length, length-map, set}
 use Rattle.logic.specs.laws.Sets.{sets-append}
 use Rattle.rule.specs.declared.Node.{Node}
 use Rattle.rule.specs.declared.Slot.{Slot}
-use Rattle.rule.specs.own.Packed.{nodeFrom, packWidth, unpacked}
-use Rattle.rule.specs.laws.Packed.{unpacked-length}
+use Rattle.packed.specs.own.Packed.{nodeFrom, packWidth, unpacked}
+use Rattle.packed.specs.laws.Packed.{unpacked-length}
 use Rattle.saying.specs.Read.{blank, laid, slot}
 
 -- one more of them in its place

@@ -20,8 +20,8 @@ use Rattle.field.specs.Names.{Names, nodesIn, nodesOf}
 use Rattle.saying.specs.own.Nodes.{Joined, PutAll, ReadsOne, Ready, childrenOf, headFields, headNodes}
 use Rattle.saying.specs.Read.{Read, byWord, nodesAt, read, size}
 use Rattle.field.specs.Words.{at, Field, operatorOf}
-use Rattle.rule.specs.own.Packed.{packWidth, packs}
-use Rattle.rule.specs.laws.Packed.{packs-both}
+use Rattle.packed.specs.own.Packed.{packWidth, packs}
+use Rattle.packed.specs.laws.Packed.{packs-both}
 use Rattle.saying.specs.laws.Nodes.{drop-later, front, join-nodes, leaf-nodes, nodes-length, one-nodes, put-long, two-nodes}
 use Rattle.saying.specs.laws.Read.{Begun, Reader, drop-two, plain-field, read-right}
 

@@ -18,12 +18,13 @@ use Rattle.field.specs.declared.RuleWord.the-variants as rule
 use Rattle.field.specs.Due.{fits}
 use Rattle.field.specs.Names.{Names}
 use Rattle.saying.specs.own.Nodes.{ReadsOne, Ready, RuleReady}
-use Rattle.saying.specs.Read.{Read, chainOf, itemOf, laid, nodesAt, readExpr, roleUseOf, ruleOf, size}
+use Rattle.saying.specs.Read.{Read, chainOf, laid, nodesAt, readExpr, ruleOf, size}
+use Rattle.stated.specs.Stated.{itemOf, roleUseOf}
 use Rattle.field.specs.Words.{at, Field}
-use Rattle.saying.specs.laws.Fields.{field-from, first-from}
+use Rattle.stated.specs.laws.Fields.{field-from, first-from}
 use Rattle.saying.specs.laws.Nodes.{nodes-length}
-use Rattle.rule.specs.own.Packed.{packLimit, packs, unpacked}
-use Rattle.rule.specs.laws.Packed.{packs-both, unpacked-all}
+use Rattle.packed.specs.own.Packed.{packLimit, packs, unpacked}
+use Rattle.packed.specs.laws.Packed.{packs-both, unpacked-all}
 use Rattle.saying.specs.laws.Read.{Begun, Reader, read-right}
 
 -- a chain has a role

@@ -17,8 +17,9 @@ use Rattle.field.specs.declared.Operator.the-variants as operator
 use Rattle.saying.specs.declared.Parsed.{Parsed}
 use Rattle.field.specs.Names.{Names, countOf, nodesIn}
 use Rattle.field.specs.Words.{at, Field}
-use Rattle.saying.specs.Read.{conceptOf, itemOf, nodesAt, read, roleUseOf, size}
-use Rattle.rule.specs.own.Packed.{packWidth, packs}
+use Rattle.saying.specs.Read.{nodesAt, read, size}
+use Rattle.stated.specs.Stated.{conceptOf, itemOf, roleUseOf}
+use Rattle.packed.specs.own.Packed.{packWidth, packs}
 
 -- the nodes xs stand as numbers in the room after so many others, and r is how many there are then
 pub record PutAll (room : List ℕ) (len : ℕ) (xs : List Node) (exit : List ℕ) (r : ℕ) : Type 0 where

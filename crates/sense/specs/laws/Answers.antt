@@ -21,18 +21,17 @@ use Rattle.rule.specs.Form.{HeadFits, HeadWithin}
 use Rattle.rule.specs.Expr.{Expr, exprOf}
 use Rattle.rule.specs.Meaning.{Linked, HoldsOf}
 use Rattle.rule.specs.Breaks.{Path, Breaks}
-use Rattle.query.specs.Body.{firstItem, Body, end, atom, not, eq, _⊕_, flat, size}
+use Rattle.body.specs.Body.{firstItem, Body, end, atom, not, eq, _⊕_, flat, size}
 use Rattle.sense.specs.Says.{Values, Met, val, meet, meets, Agree, InRange, HoldsAtom, All, Answer}
-use Rattle.query.specs.Translation.{link, variables, ofExpr, path, without, answersOf, bodyOf, queryOf}
-use Rattle.query.specs.Length.{headLength}
-use Rattle.query.specs.Promise.{itemLimit}
+use Rattle.body.specs.Translation.{link, variables, ofExpr, path, without, answersOf, bodyOf, queryOf}
+use Rattle.body.specs.Length.{headLength, itemLimit}
 use Rattle.sense.specs.Demand2.{Shown}
 use Rattle.sense.specs.Demand2.Shown.{yes, alone, pair}
-use Rattle.query.specs.laws.Body.{reads-back}
+use Rattle.body.specs.laws.Body.{reads-back}
 use Rattle.sense.specs.laws.Says.{Exists, meet-mono, mono, val-var, val-item, val-agree, split, join}
 use Rattle.sense.specs.laws.Fresh.{Below, below-up, below-link, below-expr}
 use Rattle.sense.specs.laws.Means.{link-met, upd, upd-same, upd-range, upd-agree, link-to, link-from, means}
-use Rattle.query.specs.laws.Length.{head-length, variables-le}
+use Rattle.body.specs.laws.Length.{head-length, variables-le}
 
 -- ---- values for x and y
 

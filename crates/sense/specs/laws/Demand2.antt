@@ -19,13 +19,13 @@ use Rattle.rule.specs.declared.Slot.{Slot}
 use Rattle.rule.specs.Breaks.{Breaks}
 use Rattle.rule.specs.Findings.{Findings, findingOf}
 use Rattle.query.specs.declared.Outcome.the-variants.{Compiled}
-use Rattle.query.specs.Body.{flat, size}
-use Rattle.query.specs.Translation.{answersOf, queryOf}
+use Rattle.body.specs.Body.{flat, size}
+use Rattle.body.specs.Translation.{answersOf, queryOf}
 use Rattle.query.specs.Promise.{Compilable, Compiles}
 use Rattle.query.specs.Promise.Compiles.{compiled}
 use Rattle.sense.specs.Demand2.{Shown, SameAnswers}
 use Rattle.sense.specs.Demand2.Shown.{yes, alone, pair}
-use Rattle.query.specs.laws.Body.{length-flat}
+use Rattle.body.specs.laws.Body.{length-flat}
 use Rattle.sense.specs.laws.Answers.{answers-rule}
 
 module _ (C : Cell → Type 0) (n : Counts) where

@@ -9,9 +9,9 @@ use native.Mathlib.Omega.{arith}
 use Rattle.rule.specs.declared.RoleUse.{RoleUse}
 use Rattle.rule.specs.Expr.{Expr}
 use Rattle.rule.specs.Expr.Expr.{name, top, neg, both, many, own, one}
-use Rattle.query.specs.Body.{firstItem, Atom, isA, rel, eq, Body}
+use Rattle.body.specs.Body.{firstItem, Atom, isA, rel, eq, Body}
 use Rattle.sense.specs.Says.{Met, meet, meets}
-use Rattle.query.specs.Translation.{linkWay, link, variables, turns, news, apart, pairs, ofExpr}
+use Rattle.body.specs.Translation.{linkWay, link, variables, turns, news, apart, pairs, ofExpr}
 use Rattle.sense.specs.laws.Says.{meets-⊕}
 
 -- each of the list has the property

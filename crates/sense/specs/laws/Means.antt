@@ -17,9 +17,9 @@ use Rattle.rule.specs.declared.RoleUse.{RoleUse}
 use Rattle.rule.specs.Expr.{Expr}
 use Rattle.rule.specs.Expr.Expr.{name, top, neg, both, many, own, one}
 use Rattle.rule.specs.Meaning.{LinkedWay, Linked, Different, HoldsOf}
-use Rattle.query.specs.Body.{firstItem, eq, Body, _⊕_}
+use Rattle.body.specs.Body.{firstItem, eq, Body, _⊕_}
 use Rattle.sense.specs.Says.{Values, Met, val, meet, meets, Agree, InRange, HoldsAtom, All}
-use Rattle.query.specs.Translation.{linkWay, link, variables, turns, news, apart, pairs, ofExpr}
+use Rattle.body.specs.Translation.{linkWay, link, variables, turns, news, apart, pairs, ofExpr}
 use Rattle.sense.specs.laws.Says.{Exists, meets-⊕, meet-mono, mono, val-var, val-item, val-agree, frame, split, join}
 use Rattle.sense.specs.laws.Fresh.{EachOf, Below, below-up, below-link, below-expr}
 

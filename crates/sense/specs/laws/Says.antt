@@ -7,7 +7,7 @@ use native.Mathlib.Omega.{arith}
 use Rattle.store.specs.declared.Counts.{Counts}
 use Rattle.store.specs.Cell.{Cell}
 use Rattle.store.specs.Cell.Cell.{Same, In, Link}
-use Rattle.query.specs.Body.{firstItem, Atom, isA, rel, eq, Body, end, atom, not, _⊕_}
+use Rattle.body.specs.Body.{firstItem, Atom, isA, rel, eq, Body, end, atom, not, _⊕_}
 use Rattle.sense.specs.Says.{Values, Met, val, meet, meets, Agree, InRange, HoldsAtom, All}
 
 -- ---- what is met

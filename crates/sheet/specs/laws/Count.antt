@@ -32,7 +32,7 @@ use Rattle.sheet.specs.own.Stands.{Opens, Since, keptTable}
 use Rattle.field.specs.own.Table.{Table, Tidy, namesOf, tableOf}
 use Rattle.rule.specs.laws.Few.{few-findings}
 use Rattle.sheet.specs.laws.Pass.{not-both, passing-rest, passing-since, saidOf}
-use Rattle.sheet.specs.laws.Stands.{counts-of}
+use Rattle.field.specs.laws.Table.{counts-of}
 
 -- ---- going through the rules
 

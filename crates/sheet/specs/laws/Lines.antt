@@ -9,7 +9,7 @@ use lib.Dec.{eqb}
 use lib.ListN.{length, replicate}
 use Rattle.text.specs.Bytes.{every}
 use Rattle.text.specs.Name.{lineByte}
-use Rattle.text.specs.own.Scan.{lineAt}
+use Rattle.reader.specs.own.Scan.{lineAt}
 use Rattle.text.specs.own.Split.{endOf, partsFrom}
 use Rattle.text.specs.laws.Split.{end-ge, end-le, parts-next, parts-none}
 use Rattle.sheet.specs.declared.Kept.{Kept}

@@ -10,7 +10,8 @@ use Rattle.field.specs.declared.Form.{Form}
 use Rattle.field.specs.declared.Form.the-variants as form
 use Rattle.field.specs.declared.RuleWord.{RuleWord}
 use Rattle.field.specs.Words.{bodyOf, formOf}
-use Rattle.line.specs.Fault.{begun, headerFault, lineFault, none, sheetLimit}
+use Rattle.field.specs.Due.{none}
+use Rattle.line.specs.Fault.{begun, headerFault, lineFault, sheetLimit}
 use Rattle.line.specs.laws.Accepted.{line-accepted}
 use Rattle.saying.specs.Read.{ruleOf}
 use Rattle.saying.specs.Meant.{Meant, meaningOf, meantBy}
@@ -18,7 +19,8 @@ use Rattle.saying.specs.laws.Meant.{rule-meant}
 use Rattle.sheet.specs.Meant.{lineMeans, linesMean, meanings}
 use Rattle.sheet.specs.Said.{Outcome, Said, lineSaid, marksOf, nothing, outcome, outcomeFrom, outcomeOf, saying}
 use Rattle.sheet.specs.Said.Outcome.{accepted, refused}
-use Rattle.sheet.specs.laws.Pass.{accepted-step, not-both, rule-said, rule-some, saidOf}
+use Rattle.line.specs.laws.Some.{rule-some}
+use Rattle.sheet.specs.laws.Pass.{accepted-step, not-both, rule-said, saidOf}
 use Rattle.sheet.specs.laws.Settled.{rule-begun, sheet-settled}
 
 -- the rules that a line of another form leaves

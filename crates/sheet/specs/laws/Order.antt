@@ -23,8 +23,10 @@ use Rattle.field.specs.declared.StatementWord.{StatementWord}
 use Rattle.field.specs.Names.{Names}
 use Rattle.field.specs.Words.{at, Field, bodyOf, formOf}
 use Rattle.line.specs.declared.Marks.{Marks}
-use Rattle.line.specs.Fault.{fieldsFault, formFault, headerFault, lineFault, none, sheetLimit}
-use Rattle.saying.specs.Read.{ruleOf, statementOf}
+use Rattle.field.specs.Due.{none}
+use Rattle.line.specs.Fault.{fieldsFault, formFault, headerFault, lineFault, sheetLimit}
+use Rattle.saying.specs.Read.{ruleOf}
+use Rattle.stated.specs.Stated.{statementOf}
 use Rattle.sheet.specs.Demand3.{Rearranged, SameSaid, Stating, rulesOf}
 use Rattle.sheet.specs.Demand3.Stating.{empty, statement}
 use Rattle.sheet.specs.Promise.{FindingsFrom}

@@ -7,17 +7,16 @@ use native.Mathlib.Omega.{arith}
 use borrow.Author.Tests.{eqb-true, leb-true}
 use lib.Dec.{eqb, leb}
 use lib.ListN.{length, drop}
-use Rattle.text.specs.own.Scan.{lineAt}
+use Rattle.reader.specs.own.Scan.{lineAt}
 use Rattle.text.specs.own.Split.{endOf, partsFrom}
-use Rattle.text.specs.Bytes.{same}
-use Rattle.text.specs.Split.{fields, lines, split}
+use Rattle.text.specs.Split.{fields, lines}
 use Rattle.text.specs.laws.Split.{end-ge, end-le, parts-all, parts-next, parts-none}
 use Rattle.field.specs.declared.Form.{Form}
 use Rattle.field.specs.declared.Form.the-variants as form
 use Rattle.sheet.specs.declared.RuleLine.{RuleLine}
 use Rattle.field.specs.declared.RuleWord.{RuleWord}
-use Rattle.field.specs.declared.StatementWord.{StatementWord}
-use Rattle.line.specs.Fault.{headerFault, lineFault, lineLimit, none, sheetLimit}
+use Rattle.field.specs.Due.{none}
+use Rattle.line.specs.Fault.{headerFault, lineFault, lineLimit, sheetLimit}
 use Rattle.field.specs.Names.{Names}
 use Rattle.sheet.specs.declared.Start.{Start}
 use Rattle.sheet.specs.own.Pass.{LineRule, Passing, RuleIfReady, foundRule}
@@ -26,10 +25,10 @@ use Rattle.saying.specs.Read.{ruleOf}
 use Rattle.sheet.specs.Said.{Outcome, Said, SheetRule, lineSaid, marksOf, nothing, outcome, outcomeFrom, outcomeOf, saying}
 use Rattle.sheet.specs.Said.Outcome.{accepted, refused}
 use Rattle.field.specs.own.Table.{Table, namesOf}
-use Rattle.field.specs.Words.{Field, bodyOf, formOf, lineForm}
+use Rattle.field.specs.Words.{Field, bodyOf, formOf}
 use Rattle.field.specs.laws.Words.{body-words}
-use Rattle.line.specs.laws.Accepted.{line-accepted}
-use Rattle.sheet.specs.laws.Taken.{right-short}
+use Rattle.line.specs.laws.Accepted.{line-accepted, right-short}
+use Rattle.line.specs.laws.Some.{rule-some}
 use Rattle.sheet.specs.laws.Settled.{rule-begun, sheet-settled}
 
 -- what was said up to the end
@@ -72,11 +71,6 @@ accepted-start sheet x e = let a = accepted-lines sheet _ _ x (sym (parts-all 10
 
 -- ---- one line
 
--- an empty line is no rule and no statement
-empty-form : formOf (fields []) ≡ form.Unknown
-unfolding split lineForm same
-empty-form = refl
-
 -- a line that is no rule leaves the rules
 saying-rules : (k past : ℕ) (n : Names) (s : Said) (fs : List Field) (r : RuleLine) (f : Form) → LineRule n f fs k past r → r .found ≡ false → saying k s f fs .rules ≡ s .rules
 saying-rules k past n s fs r form.Concept l e = refl
@@ -105,16 +99,6 @@ said-rules k past n s l r q e = go (none l)
     go : (t : Bool) → cond t s (saying k s (formOf (fields l)) (bodyOf (fields l))) .rules ≡ s .rules
     go true = refl
     go false = saying-rules k past n s (bodyOf (fields l)) r (formOf (fields l)) q e
-
--- the line of a rule is not empty
-pub rule-some : (l : List ℕ) (w : RuleWord) → formOf (fields l) ≡ form.Rule w → none l ≡ false
-rule-some [] w e = let z : _≡_ {A = Form} form.Unknown (form.Rule w) = sym empty-form ∙ e in cc
-rule-some (b ∷ l) w e = refl
-
--- nor is that of a statement
-pub statement-some : (l : List ℕ) (w : StatementWord) → formOf (fields l) ≡ form.Statement w → none l ≡ false
-statement-some [] w e = let z : _≡_ {A = Form} form.Unknown (form.Statement w) = sym empty-form ∙ e in cc
-statement-some (b ∷ l) w e = refl
 
 pub rule-said : (k : ℕ) (s : Said) (l : List ℕ) (w : RuleWord) → formOf (fields l) ≡ form.Rule w → lineSaid k s l ≡ saying k s (form.Rule w) (bodyOf (fields l))
 unfolding lineSaid

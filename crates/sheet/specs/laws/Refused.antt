@@ -18,8 +18,8 @@ use Rattle.field.specs.declared.Due.{Due}
 use Rattle.field.specs.declared.Due.the-variants as due
 use Rattle.field.specs.declared.Form.{Form}
 use Rattle.line.specs.declared.Marks.{Marks}
-use Rattle.field.specs.Due.{dues, fits, lineupOf, next}
-use Rattle.line.specs.Fault.{ended, fieldsFault, formFault, full, header, headerFault, lineFault, lineLimit, none, sheetLimit, unknown}
+use Rattle.field.specs.Due.{dues, fits, lineupOf, next, none}
+use Rattle.line.specs.Fault.{ended, fieldsFault, formFault, full, header, headerFault, lineFault, lineLimit, sheetLimit, unknown}
 use Rattle.field.specs.Names.{Names, declared, fault, fieldFault, fieldFaults, isCount, lowerFault, nameFault, newFault, nodesIn, plain, reserved}
 use Rattle.field.specs.Words.{Field, bodyOf, formOf, sectionOf}
 use Rattle.sheet.specs.Said.{Said, lineSaid, marksOf, nothing, outcome, outcomeFrom, outcomeOf}

@@ -11,7 +11,8 @@ use Rattle.text.specs.Split.{fields}
 use Rattle.field.specs.declared.Form.{Form}
 use Rattle.field.specs.declared.Form.the-variants as form
 use Rattle.field.specs.declared.RuleWord.{RuleWord}
-use Rattle.line.specs.Fault.{begun, ended, lineFault, none}
+use Rattle.field.specs.Due.{none}
+use Rattle.line.specs.Fault.{begun, ended, lineFault}
 use Rattle.sheet.specs.Said.{Outcome, Said, lineSaid, marksOf, outcomeFrom, saying}
 use Rattle.sheet.specs.Said.Outcome.{accepted, refused}
 use Rattle.field.specs.Words.{Field, bodyOf, formOf, sectionOf}

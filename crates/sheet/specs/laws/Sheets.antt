@@ -20,9 +20,9 @@ use Rattle.sheet.specs.Promise.{Leaves, Stopped}
 use Rattle.sheet.specs.Said.{Said, marksOf, nothing, outcome, outcomeFrom, outcomeOf}
 use Rattle.sheet.specs.Said.Outcome.{refused}
 use Rattle.sheet.specs.own.Stands.{Begins, Ends, Opens, Stands, blankKept, keptTable, tooLong}
-use Rattle.field.specs.own.Table.{Tidy, conceptName, namesOf, numberCount, tableOf}
-use Rattle.field.specs.laws.Table.{listed-none}
-use Rattle.sheet.specs.laws.Stands.{begun-keeps, counts-of}
+use Rattle.field.specs.own.Table.{Tidy, conceptName, numberCount, tableOf}
+use Rattle.field.specs.laws.Table.{counts-of, listed-none}
+use Rattle.sheet.specs.laws.Stands.{begun-keeps}
 
 -- ---- how it begins
 

@@ -16,7 +16,8 @@ use Rattle.field.specs.declared.Form.{Form}
 use Rattle.field.specs.declared.Form.the-variants as form
 use Rattle.field.specs.Words.{at, Field, bodyOf, formOf}
 use Rattle.field.specs.laws.Right.{item-new, right-first}
-use Rattle.line.specs.Fault.{lineFault, none, ruleLimit, sheetLimit}
+use Rattle.field.specs.Due.{none}
+use Rattle.line.specs.Fault.{lineFault, ruleLimit, sheetLimit}
 use Rattle.line.specs.laws.Accepted.{Accepted, line-accepted}
 use Rattle.sheet.specs.Said.{Said, SheetRule, lineOf, lineSaid, marksOf, nothing, outcome, outcomeFrom, saying}
 use Rattle.sheet.specs.Said.Outcome.{accepted}

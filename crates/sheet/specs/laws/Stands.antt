@@ -7,7 +7,7 @@ use Prim.Native.Nat.{ℕ, _+_, _<_}
 use native.Mathlib.Omega.{arith}
 use borrow.Author.Tests.{lt-ltb}
 use lib.Dec.{ltb}
-use lib.ListN.{length, length-append, replicate}
+use lib.ListN.{length-append, replicate}
 use Rattle.logic.specs.Number.{One}
 use Rattle.logic.specs.Number.One.{first, later}
 use Rattle.logic.specs.laws.Number.{one-none}
@@ -24,15 +24,16 @@ use Rattle.field.specs.declared.Form.the-variants as form
 use Rattle.line.specs.declared.Marks.{Marks}
 use Rattle.field.specs.declared.RuleWord.{RuleWord}
 use Rattle.field.specs.declared.StatementWord.{StatementWord}
-use Rattle.line.specs.Fault.{begun, none, ruleLimit}
+use Rattle.field.specs.Due.{none}
+use Rattle.line.specs.Fault.{begun, ruleLimit}
 use Rattle.field.specs.Names.{Names, countsOf}
 use Rattle.sheet.specs.Promise.{Stopped}
 use Rattle.field.specs.Words.{at, Field}
 use Rattle.sheet.specs.Said.{Said, StatedIn, saying}
-use Rattle.saying.specs.Read.{statementOf}
+use Rattle.stated.specs.Stated.{statementOf}
 use Rattle.sheet.specs.own.Stands.{Begins, Stands}
-use Rattle.field.specs.own.Table.{Table, Tidy, itemsFrom, namesOf, rolesFrom, tableOf}
-use Rattle.field.specs.laws.Table.{entered-length}
+use Rattle.field.specs.own.Table.{Table, namesOf, tableOf}
+use Rattle.field.specs.laws.Table.{counts-of}
 use Rattle.field.specs.laws.Declared.{DeclaredConcept, DeclaredItem, DeclaredRole, addConcept, addItem, addRole, moreConcepts, moreItems, moreRoles}
 use Rattle.sheet.specs.laws.Settled.{none-last}
 
@@ -96,17 +97,6 @@ begins-fresh false n s t e k = k
 pub map-last : {A B : Type 0} (f : A → B) (xs : List A) (y : A) → map f (xs ++ y ∷ []) ≡ map f xs ++ f y ∷ []
 map-last f [] y = refl
 map-last f (x ∷ xs) y = ap (_∷_ (f x)) (map-last f xs y)
-
--- ---- tables
-
--- the names are as many as the table counts
-pub counts-of : (sheet : List ℕ) (t : Table) → Tidy sheet t → countsOf (namesOf sheet t) ≡ t .counts
-counts-of sheet t y =
-    rw (
-      entered-length sheet (t .numbers) itemsFrom (t .counts .items) (omega (arith, y .long, y .room .items)),
-      entered-length sheet (t .numbers) 0 (t .counts .concepts) (omega (arith, y .long, y .room .concepts)),
-      entered-length sheet (t .numbers) rolesFrom (t .counts .roles) (omega (arith, y .long, y .room .roles)),
-    )
 
 -- ---- what stands for what was said, after one line more
 

@@ -9,8 +9,8 @@ use lib.ListN.{length, drop}
 use lib.Seq.{getD-drop}
 use Rattle.text.specs.Name.{isName}
 use Rattle.text.specs.Split.{fields}
-use Rattle.text.specs.own.Scan.{startBy}
-use Rattle.text.specs.laws.Ends.{field-length, field-text, line-inside, room-between}
+use Rattle.reader.specs.own.Scan.{startBy}
+use Rattle.reader.specs.laws.Ends.{field-length, field-text, line-inside, room-between}
 use Rattle.text.specs.laws.Name.{name-bounds}
 use Rattle.text.specs.laws.Split.{end-le}
 use Rattle.store.specs.Layout.{conceptLimit, itemLimit, roleLimit, width}
@@ -21,9 +21,9 @@ use Rattle.field.specs.declared.Form.the-variants as form
 use Rattle.line.specs.declared.Marks.{Marks}
 use Rattle.field.specs.declared.RuleWord.{RuleWord}
 use Rattle.field.specs.declared.StatementWord.{StatementWord}
-use Rattle.field.specs.Due.{dues, isExpr, lineupOf}
-use Rattle.line.specs.Fault.{begun, lineFault, lineLimit, none, ruleLimit}
-use Rattle.field.specs.Names.{Names, fieldFault}
+use Rattle.field.specs.Due.{dues, isExpr, lineupOf, none}
+use Rattle.line.specs.Fault.{begun, ruleLimit}
+use Rattle.field.specs.Names.{fieldFault}
 use Rattle.field.specs.Words.{at, Field, bodyOf, formOf}
 use Rattle.sheet.specs.Said.{Said, lineSaid, saying}
 use Rattle.sheet.specs.own.Stands.{Begins, Declaration, Stands, Takes}
@@ -36,11 +36,6 @@ use Rattle.field.specs.laws.Entry.{entry-name}
 use Rattle.field.specs.laws.Table.{entered-length}
 use Rattle.field.specs.laws.Words.{body-words}
 use Rattle.sheet.specs.laws.Stands.{stands-concept, stands-item, stands-role, stands-rule}
-
--- a line without a fault is not too long
-pub right-short : (n : Names) (m : Marks) (l : List ℕ) → lineFault n m l ≡ 0 → length l ≤ lineLimit
-right-short n m [] e = omega arith
-right-short n m (b ∷ l) e = line-accepted n m (b ∷ l) refl e .0
 
 -- an empty line says nothing
 pub said-empty : (k : ℕ) (x : Said) (line : List ℕ) → length line ≡ 0 → lineSaid k x line ≡ x

@@ -8,7 +8,7 @@ use lib.ListN.{length}
 use Rattle.text.specs.Bytes.{every}
 use Rattle.text.specs.Name.{isName, lineByte}
 use Rattle.text.specs.Split.{fields}
-use Rattle.text.specs.own.Scan.{lineAt}
+use Rattle.reader.specs.own.Scan.{lineAt}
 use Rattle.text.specs.own.Split.{partsFrom}
 use Rattle.store.specs.declared.Counts.{Counts}
 use Rattle.store.specs.declared.Statement.{Statement}

@@ -9,12 +9,11 @@ use borrow.Author.Tests.{lt-ltb, ltb-true, eq-eqb, ne-eqb, le-leb, lt-leb, leb-t
 use lib.Dec.{leb, ltb, eqb, leb·suc-suc, leb·zero}
 use lib.ListN.{length, getD, take, drop, drop-of-length-le, length-drop}
 use lib.Seq.{drop-cons, drop-drop}
-use Rattle.text.specs.own.Split.{partOf, upto, partsFrom, endOf, fieldAt, fieldFrom, pastField}
+use Rattle.text.specs.own.Split.{partOf, upto, partsFrom, endOf}
 use Rattle.text.specs.Bytes.{place, same}
 use Rattle.text.specs.Split.{split, onto}
-use Rattle.text.specs.declared.line.Next.the-variants.{At, End}
 use Rattle.text.specs.laws.Bytes.{place-here, place-on, place-none}
-use Rattle.text.specs.laws.Choice.{cond-both, bool-same, le-cases}
+use Rattle.text.specs.laws.Choice.{cond-both, bool-same}
 
 same-test : (a b c d : ℕ) → (a < b → c ≤ d) → (c ≤ d → a < b) → ltb a b ≡ leb c d
 same-test a b c d f g = bool-same (ltb a b) (leb c d) (λ e. le-leb c d (f (ltb-true a b e))) (λ e. lt-ltb a b (g (leb-true c d e)))
@@ -109,49 +108,6 @@ split-few t (b ∷ s) = at (eqb b t) (split-few t s)
 pub parts-few : (t : ℕ) (s : List ℕ) (i : ℕ) → length (partsFrom t s i) ≤ length s + 1
 unfolding partsFrom
 parts-few t s i = cond-both (λ (ps : List (List ℕ)). length ps ≤ length s + 1) (leb i (length s)) (omega (arith, split-few t (drop i s), length-drop i s)) (omega arith)
-
--- ---- fields by their place
-
-module _ (line : List ℕ) (at : ℕ) where
-  pub fields-next : at ≤ length line → partsFrom 9 line at ≡ fieldFrom line at ∷ partsFrom 9 line (pastField line at)
-  unfolding fieldFrom pastField
-  fields-next h = parts-next 9 line at h ∙ rw (le-leb _ _ h)
-
-  pub fields-none : length line < at → partsFrom 9 line at ≡ []
-  fields-none h = parts-none 9 line at h
-
--- what a reader told
-pub field-told : (line : List ℕ) (at a e : ℕ) → fieldAt line at ≡ At a e → (a ≡ at) × (e ≡ endOf 9 line at) × (at ≤ length line)
-unfolding fieldAt
-field-told line at a e q =
-    le-cases at (length line)
-    (λ h. let z : At at (endOf 9 line at) ≡ At a e = rw (le-leb _ _ h) at q in (cc, cc, h))
-    (λ h. let z : End ≡ At a e = rw (lt-leb _ _ h) at q in let n : _≡_ {A = ℕ} 0 1 = cc in absurd (omega arith))
-
-pub field-ended : (line : List ℕ) (at : ℕ) → fieldAt line at ≡ End → length line < at
-unfolding fieldAt
-field-ended line at q =
-    le-cases at (length line)
-    (λ h. let z : At at (endOf 9 line at) ≡ End = rw (le-leb _ _ h) at q in let n : _≡_ {A = ℕ} 0 1 = cc in absurd (omega arith))
-    (λ h. h)
-
--- the field and the place past it, where there is one and where there is none
-module _ (line : List ℕ) (at : ℕ) where
-  pub field-here : at ≤ length line → fieldFrom line at ≡ partOf line at (endOf 9 line at - at)
-  unfolding fieldFrom
-  field-here h = rw (le-leb _ _ h)
-
-  pub field-none : length line < at → fieldFrom line at ≡ []
-  unfolding fieldFrom
-  field-none h = rw (lt-leb _ _ h)
-
-  pub past-here : at ≤ length line → pastField line at ≡ endOf 9 line at + 1
-  unfolding pastField
-  past-here h = rw (le-leb _ _ h)
-
-  pub past-none : length line < at → pastField line at ≡ at
-  unfolding pastField
-  past-none h = rw (lt-leb _ _ h)
 
 -- the place of a word among the parts from a place on; p are the bytes of the part there, and e its end
 module _ (w : List ℕ) (t : ℕ) (s : List ℕ) (at : ℕ) where

@@ -1,11 +1,9 @@
 -- Parts of a list of bytes by their places, as the functions have them.
 use mathlib.Core.Bool.{cond}
 use mathlib.Core.List.{List, [], _∷_}
-use Prim.Native.Nat.{ℕ, zero, suc, _+_, _-_}
+use Prim.Native.Nat.{ℕ, zero, suc, _+_}
 use lib.Dec.{leb, eqb}
 use lib.ListN.{length, take, drop}
-use Rattle.text.specs.declared.line.Next.{Next}
-use Rattle.text.specs.declared.line.Next.the-variants.{At, End}
 use Rattle.text.specs.Split.{split}
 
 -- so many bytes from a place on, or as many as there are
@@ -24,15 +22,3 @@ endOf t s at = at + upto t (drop at s)
 -- the parts from a place on; a place past the end has none
 unfoldable pub partsFrom : ℕ → List ℕ → ℕ → List (List ℕ)
 partsFrom t s at = cond (leb at (length s)) (split t (drop at s)) []
-
--- the field at a place of a line
-unfoldable pub fieldAt : List ℕ → ℕ → Next
-fieldAt line at = cond (leb at (length line)) (At at (endOf 9 line at)) End
-
--- its bytes
-unfoldable pub fieldFrom : List ℕ → ℕ → List ℕ
-fieldFrom line at = cond (leb at (length line)) (partOf line at (endOf 9 line at - at)) []
-
--- the place past it
-unfoldable pub pastField : List ℕ → ℕ → ℕ
-pastField line at = cond (leb at (length line)) (endOf 9 line at + 1) at

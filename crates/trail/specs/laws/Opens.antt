@@ -18,7 +18,7 @@ use Rattle.sheet.specs.Said.{Said, outcome}
 use Rattle.sheet.specs.Said.Outcome.{accepted as acceptedSheet}
 use Rattle.field.specs.own.Table.{Table, namesOf, tableOf}
 use Rattle.sheet.specs.laws.Pass.{passing-since}
-use Rattle.sheet.specs.laws.Stands.{counts-of}
+use Rattle.field.specs.laws.Table.{counts-of}
 use Rattle.trail.specs.declared.Trail.{Trail}
 use Rattle.trail.specs.own.Trail.{Opens, Sought}
 use Rattle.trail.specs.own.Trail.Begins.{refused, accepted}

@@ -19,11 +19,13 @@ use Rattle.field.specs.declared.Form.{Form}
 use Rattle.field.specs.declared.Form.the-variants as form
 use Rattle.field.specs.Names.{countsOf}
 use Rattle.field.specs.Words.{Field, bodyOf, formOf}
-use Rattle.line.specs.Fault.{begun, lineFault, none}
+use Rattle.field.specs.Due.{none}
+use Rattle.line.specs.Fault.{begun, lineFault}
 use Rattle.line.specs.laws.Accepted.{Accepted, line-accepted}
-use Rattle.saying.specs.Read.{ruleOf, statementOf}
+use Rattle.saying.specs.Read.{ruleOf}
+use Rattle.stated.specs.Stated.{statementOf}
 use Rattle.saying.specs.laws.Judged.{Good, rule-good}
-use Rattle.saying.specs.laws.Stated.{statement-within}
+use Rattle.stated.specs.laws.Stated.{statement-within}
 use Rattle.sheet.specs.Said.{Said, SheetRule, SheetStatement, StatedIn, lineSaid, marksOf, nothing, outcome, outcomeFrom, saying, statementsOf}
 use Rattle.sheet.specs.Said.Outcome.{accepted}
 use Rattle.sheet.specs.laws.Pass.{accepted-start, accepted-step, saidOf}

@@ -14,7 +14,7 @@ use Rattle.sheet.specs.own.Stands.{Opens, keptTable}
 use Rattle.sheet.specs.laws.Count.{opens-held, opens-outcome, whole-refused}
 use Rattle.sheet.specs.laws.Pass.{saidOf}
 use Rattle.field.specs.own.Table.{Table}
-use Rattle.sheet.specs.laws.Stands.{counts-of}
+use Rattle.field.specs.laws.Table.{counts-of}
 use Rattle.why.specs.declared.Explained.the-variants.{Lines, Refused}
 use Rattle.why.specs.own.Asked.{Asked, Of, ReasonMarked}
 use Rattle.why.specs.own.Writing.{Answered, Lists}

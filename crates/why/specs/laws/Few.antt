@@ -13,7 +13,7 @@ use Rattle.field.specs.declared.Form.{Form}
 use Rattle.field.specs.declared.Form.the-variants as form
 use Rattle.line.specs.Fault.{lineFault}
 use Rattle.sheet.specs.Said.{Outcome, Said, lineSaid, marksOf, nothing, outcome, outcomeFrom, saying, SheetStatement}
-use Rattle.saying.specs.Read.{statementOf}
+use Rattle.stated.specs.Stated.{statementOf}
 use Rattle.sheet.specs.Said.Outcome.{accepted}
 use Rattle.field.specs.Words.{bodyOf, formOf}
 use Rattle.line.specs.laws.Accepted.{line-accepted}

@@ -18,7 +18,7 @@ use Rattle.closure.specs.Lines.Stated.{stated}
 use Rattle.field.specs.Names.{Names, countsOf}
 use Rattle.sheet.specs.Said.{SheetStatement, statementsOf}
 use Rattle.field.specs.own.Table.{Table, Tidy, namesOf}
-use Rattle.sheet.specs.laws.Stands.{counts-of}
+use Rattle.field.specs.laws.Table.{counts-of}
 use Rattle.reason.specs.own.Code.{AllWithin, Coded, cellAt}
 use Rattle.reason.specs.own.Code.Coded.{coded}
 use Rattle.reason.specs.Part.{Minimal, Part}

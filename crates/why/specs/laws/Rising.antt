@@ -13,9 +13,9 @@ use Rattle.store.specs.declared.Counts.{Counts}
 use Rattle.store.specs.Cell.{Cell, Follows, Nothing}
 use Rattle.field.specs.declared.Form.{Form}
 use Rattle.field.specs.declared.Form.the-variants as form
-use Rattle.line.specs.Fault.{none as empty}
+use Rattle.field.specs.Due.{none as empty}
 use Rattle.sheet.specs.Said.{Outcome, Said, SheetStatement, lineSaid, nothing, outcome, outcomeFrom, saying}
-use Rattle.saying.specs.Read.{statementOf}
+use Rattle.stated.specs.Stated.{statementOf}
 use Rattle.sheet.specs.Said.Outcome.{accepted}
 use Rattle.field.specs.Words.{bodyOf, formOf}
 use Rattle.sheet.specs.laws.Pass.{accepted-start, accepted-step, saidOf}

@@ -4,8 +4,8 @@ use mathlib.Core.Bool.{Bool, true, false, cond, true≢false}
 use mathlib.Core.List.{List, [], _∷_, _++_}
 use Prim.Native.Nat.{ℕ, _+_, _≤_, _<_, zero-le}
 use native.Mathlib.Omega.{arith}
-use lib.ListN.{length, drop, length-append}
-use Rattle.text.specs.own.Scan.{lineAt}
+use lib.ListN.{length, length-append}
+use Rattle.reader.specs.own.Scan.{lineAt}
 use Rattle.text.specs.own.Split.{endOf, partsFrom}
 use Rattle.text.specs.Split.{fields}
 use Rattle.text.specs.laws.Split.{end-ge, end-le, parts-next, parts-none}
@@ -13,20 +13,19 @@ use Rattle.store.specs.Cell.{Within, cellOf}
 use Rattle.field.specs.declared.Form.{Form}
 use Rattle.field.specs.declared.Form.the-variants as form
 use Rattle.field.specs.declared.StatementWord.{StatementWord}
-use Rattle.field.specs.Due.{dues, lineupOf}
-use Rattle.line.specs.Fault.{begun, lineFault, lineLimit, none}
+use Rattle.field.specs.Due.{dues, lineupOf, none}
+use Rattle.line.specs.Fault.{begun, lineFault, lineLimit}
 use Rattle.field.specs.Names.{Names, countsOf}
 use Rattle.sheet.specs.Said.{Outcome, Said, SheetStatement, lineSaid, marksOf, nothing, outcome, outcomeFrom, saying}
-use Rattle.saying.specs.Read.{statementOf}
+use Rattle.stated.specs.Stated.{statementOf}
 use Rattle.sheet.specs.Said.Outcome.{accepted}
 use Rattle.field.specs.own.Table.{Table, namesOf}
 use Rattle.field.specs.Words.{Field, bodyOf, formOf}
 use Rattle.field.specs.laws.Right.{Right}
-use Rattle.field.specs.laws.Words.{body-words}
-use Rattle.line.specs.laws.Accepted.{line-accepted}
-use Rattle.saying.specs.laws.Stated.{statement-within}
-use Rattle.sheet.specs.laws.Taken.{right-short}
-use Rattle.sheet.specs.laws.Pass.{accepted-start, accepted-step, saidOf, statement-some}
+use Rattle.line.specs.laws.Accepted.{line-accepted, right-short}
+use Rattle.stated.specs.laws.Stated.{statement-within}
+use Rattle.line.specs.laws.Some.{statement-some}
+use Rattle.sheet.specs.laws.Pass.{accepted-start, accepted-step, saidOf}
 use Rattle.sheet.specs.laws.Settled.{none-last, sheet-settled}
 use Rattle.why.specs.declared.StatementLine.{StatementLine}
 use Rattle.why.specs.own.Stating.{LineStatement, Next, NextStatement, Opened, Passing, Paused, foundStatement}
@@ -65,10 +64,6 @@ said-statements k past n s l r q e = go (none l)
 statement-said : (k : ℕ) (s : Said) (l : List ℕ) (w : StatementWord) → formOf (fields l) ≡ form.Statement w → lineSaid k s l ≡ saying k s (form.Statement w) (bodyOf (fields l))
 unfolding lineSaid
 statement-said k s l w e = rw (statement-some l w e, e)
-
--- its fields after its word
-pub statement-body : (l : List ℕ) (w : StatementWord) → formOf (fields l) ≡ form.Statement w → drop 1 (fields l) ≡ bodyOf (fields l)
-statement-body l w e = rw e at (body-words (fields l) (λ u. let z : _≡_ {A = Form} form.Unknown (form.Statement w) = sym u ∙ e in let q : _≡_ {A = ℕ} 0 1 = cc in omega arith))
 
 -- once a statement was accepted, the sheet has begun
 statement-begun : (k : ℕ) (x : Said) (w : StatementWord) (fs : List Field) → begun (marksOf (saying k x (form.Statement w) fs)) ≡ true

@@ -11,7 +11,7 @@ use Rattle.field.specs.declared.Form.the-variants as form
 use Rattle.line.specs.Fault.{sheetLimit}
 use Rattle.field.specs.Names.{Names, countsOf}
 use Rattle.sheet.specs.Said.{Said, SheetStatement, outcome, outcomeFrom}
-use Rattle.saying.specs.Read.{statementOf}
+use Rattle.stated.specs.Stated.{statementOf}
 use Rattle.sheet.specs.Said.Outcome.{accepted}
 use Rattle.field.specs.own.Table.{Table, namesOf}
 use Rattle.field.specs.Words.{Field}

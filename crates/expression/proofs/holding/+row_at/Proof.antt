@@ -5,7 +5,7 @@ use borrow.Fn.Kinds.{In}
 use borrow.Fn.PlainCycle.{Measures, is, falls, and}
 use Rattle.row.specs.own.Row.{RowHas}
 use Rattle.store.specs.Layout.{Holds}
-use Rattle.rule.specs.own.Packed.{slotsOf}
+use Rattle.packed.specs.own.Packed.{slotsOf}
 use Rattle.expression.specs.laws.Holding.{none-such, row-marks, row-top, second-first}
 use Rattle.row.proofs.pick.empty.Reads as empty-reads
 use Rattle.expression.proofs.holding.+row_at.Lts-row_at as row-at-lts
@@ -15,7 +15,7 @@ use Rattle.expression.proofs.holding.row_at.Reads as row-at
 use Rattle.expression.proofs.children.first_child.Reads as first-child-reads
 use Rattle.expression.proofs.children.has_first.Reads as has-first-reads
 use Rattle.expression.proofs.children.has_second.Reads as has-second-reads
-use Rattle.rule.proofs.packs.node_at.Reads as node-at-reads
+use Rattle.packed.proofs.node_at.Reads as node-at-reads
 use Rattle.expression.proofs.children.second_child.Reads as second-child-reads
 use Rattle.expression.proofs.holding.+row_at.{statement}
 use Rattle.expression.proofs.holding.+row_at.Tie.{close}

@@ -12,7 +12,7 @@ use Rattle.text.specs.Split.{fields}
 use Rattle.text.specs.laws.Split.{split-few}
 use Rattle.field.specs.Due.{dues}
 use Rattle.field.specs.own.Table.{namesOf, tableOf}
-use Rattle.line.specs.own.Walk.{pending}
+use Rattle.due.specs.own.Pending.{pending}
 use Rattle.line.specs.laws.Walk.{Along, along-start, along-step, along-stop, along-end}
 use Rattle.line.proofs.walk.walk.Statement.{statement}
 use Rattle.line.proofs.walk.walk.Tie as tie

@@ -3,8 +3,8 @@ use mathlib.Core.Path.{refl}
 use mathlib.Core.List.{[]}
 use borrow.Author.Needs.{needs}
 use native.Mathlib.Omega.{arith}
-use Rattle.query.specs.Length.{headLength}
-use Rattle.query.specs.Translation.{bodyOf, link, without}
+use Rattle.body.specs.Length.{headLength}
+use Rattle.body.specs.Translation.{bodyOf, link, without}
 use Rattle.query.specs.laws.Filled.{atom-room, items-filled}
 use Rattle.query.proofs.compile.absent.Statement.{statement}
 use Rattle.query.proofs.compile.absent.Tie as tie

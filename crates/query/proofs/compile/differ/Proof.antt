@@ -2,8 +2,8 @@
 use mathlib.Core.Path.{refl}
 use mathlib.Core.List.{[]}
 use borrow.Author.Needs.{needs}
-use Rattle.query.specs.Body.{atom, end, eq}
-use Rattle.query.specs.Translation.{bodyOf}
+use Rattle.body.specs.Body.{atom, end, eq}
+use Rattle.body.specs.Translation.{bodyOf}
 use Rattle.query.specs.laws.Filled.{differ-room, items-filled}
 use Rattle.query.proofs.compile.differ.Statement.{statement}
 use Rattle.query.proofs.compile.differ.Tie as tie

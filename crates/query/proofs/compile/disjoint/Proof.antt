@@ -3,9 +3,9 @@ use mathlib.Core.Path.{refl}
 use mathlib.Core.List.{[]}
 use borrow.Author.Needs.{needs}
 use native.Mathlib.Omega.{arith}
-use Rattle.query.specs.Length.{headLength}
-use Rattle.query.specs.Body.{atom, end}
-use Rattle.query.specs.Translation.{bodyOf, link}
+use Rattle.body.specs.Length.{headLength}
+use Rattle.body.specs.Body.{atom, end}
+use Rattle.body.specs.Translation.{bodyOf, link}
 use Rattle.query.specs.laws.Filled.{atom-room, dis-rest, two-filled}
 use Rattle.query.proofs.compile.disjoint.Statement.{statement}
 use Rattle.query.proofs.compile.disjoint.Tie as tie

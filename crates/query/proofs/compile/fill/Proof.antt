@@ -2,8 +2,8 @@
 use mathlib.Core.Path.{refl}
 use borrow.Author.Needs.{needs}
 use native.Mathlib.Omega.{arith}
-use Rattle.query.specs.Length.{headLength}
-use Rattle.query.specs.Translation.{bodyOf}
+use Rattle.body.specs.Length.{headLength}
+use Rattle.body.specs.Translation.{bodyOf}
 use Rattle.query.specs.laws.Filled.{spacious-as, spacious-free, filled-as, filled-free, atom-room, at-start}
 use Rattle.query.proofs.compile.fill.Statement.{statement}
 use Rattle.query.proofs.compile.fill.Tie as tie

@@ -2,8 +2,8 @@
 use mathlib.Core.Path.{refl}
 use mathlib.Core.List.{[]}
 use borrow.Author.Needs.{needs}
-use Rattle.query.specs.Body.{eq}
-use Rattle.query.specs.Translation.{bodyOf, without}
+use Rattle.body.specs.Body.{eq}
+use Rattle.body.specs.Translation.{bodyOf, without}
 use Rattle.query.specs.laws.Filled.{same-room, items-filled}
 use Rattle.query.proofs.compile.same.Statement.{statement}
 use Rattle.query.proofs.compile.same.Tie as tie

@@ -11,8 +11,9 @@ use Rattle.field.specs.own.Table.{namesOf, tableOf}
 use Rattle.sheet.specs.laws.Count.{Turn, turn-end, turn-next, turn-paused, turn-since}
 use Rattle.rule.specs.laws.Few.{few-findings}
 use Rattle.sheet.specs.laws.Pass.{accepted-start, passing-since}
-use Rattle.sheet.specs.laws.Stands.{counts-of}
-use Rattle.report.specs.own.Lines.{Printed, findingBound}
+use Rattle.field.specs.laws.Table.{counts-of}
+use Rattle.printed.specs.own.Lines.{findingBound}
+use Rattle.report.specs.own.Pages.{Printed}
 use Rattle.report.specs.laws.Page.{turn-printed}
 use Rattle.report.specs.laws.Printed.{printed-start}
 use native.Mathlib.Omega.{arith}

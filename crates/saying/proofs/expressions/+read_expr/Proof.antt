@@ -5,7 +5,7 @@ use borrow.Author.Needs.{needs}
 use Rattle.text.specs.Split.{fields}
 use Rattle.field.specs.Words.{operatorOf}
 use Rattle.field.specs.own.Table.{namesOf, tableOf}
-use Rattle.saying.specs.laws.Fields.{first-from}
+use Rattle.stated.specs.laws.Fields.{first-from}
 use Rattle.saying.specs.laws.Nodes.{put-long}
 use Rattle.saying.specs.laws.Parse.{fields-few, first-ready, join-ready, joined-long, reads-long, ready-inside, ready-some, second-ready, two-else, word-leaf, word-one, word-room, word-two}
 use Prim.Native.Nat.{ℕ, _+_, _<_}
@@ -19,7 +19,7 @@ use Rattle.saying.proofs.expressions.children.Reads as children-reads
 use Rattle.saying.proofs.expressions.head_fields.Reads as head-fields-reads
 use Rattle.saying.proofs.expressions.join.Reads as join-reads
 use Rattle.saying.proofs.expressions.put_head.Reads as put-head-reads
-use Rattle.saying.proofs.numbers.nth.Reads as nth-reads
+use Rattle.stated.proofs.numbers.nth.Reads as nth-reads
 use Rattle.saying.proofs.expressions.+read_expr.{statement}
 use Rattle.saying.proofs.expressions.+read_expr.Tie.{close}
 

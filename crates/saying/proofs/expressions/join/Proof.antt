@@ -2,7 +2,7 @@
 use mathlib.Core.Path.{refl, _∙_, ap}
 use lib.ListN.{length, length-set}
 use Prim.Native.Nat.{_+_, _*_}
-use Rattle.rule.specs.own.Packed.{packWidth}
+use Rattle.packed.specs.own.Packed.{packWidth}
 use Rattle.saying.specs.laws.Nodes.{put-after, put-none}
 use native.Mathlib.Omega.{arith}
 use borrow.Author.Needs.{needs}

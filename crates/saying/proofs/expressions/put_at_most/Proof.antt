@@ -7,8 +7,8 @@ use Rattle.rule.specs.declared.Node.the-variants as node
 use Rattle.rule.specs.declared.RoleUse.{RoleUse}
 use Rattle.field.specs.Names.{countOf}
 use Rattle.field.specs.own.Table.{namesOf, tableOf}
-use Rattle.saying.specs.Read.{roleUseOf}
-use Rattle.saying.specs.laws.Fields.{field-from}
+use Rattle.stated.specs.Stated.{roleUseOf}
+use Rattle.stated.specs.laws.Fields.{field-from}
 use Rattle.saying.specs.laws.Nodes.{put-as}
 use borrow.Author.Needs.{needs}
 use Rattle.saying.proofs.expressions.put_at_most.Statement.{statement}

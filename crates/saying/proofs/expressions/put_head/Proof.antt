@@ -7,8 +7,8 @@ use Rattle.store.specs.declared.Item.{Item}
 use Rattle.rule.specs.declared.Node.the-variants as node
 use Rattle.rule.specs.declared.RoleUse.{RoleUse}
 use Rattle.field.specs.own.Table.{namesOf, tableOf}
-use Rattle.saying.specs.Read.{conceptOf, itemOf, roleUseOf}
-use Rattle.saying.specs.laws.Fields.{field-from, first-from}
+use Rattle.stated.specs.Stated.{conceptOf, itemOf, roleUseOf}
+use Rattle.stated.specs.laws.Fields.{field-from, first-from}
 use Rattle.saying.specs.laws.Nodes.{put-as}
 use native.Mathlib.Omega.{arith}
 use borrow.Author.Needs.{needs}

@@ -4,9 +4,9 @@ use Prim.Native.Nat.{ℕ, _-_, _≤_}
 use lib.ListN.{length, length-set}
 use Rattle.rule.specs.Form.{nodeLimit}
 use Rattle.saying.specs.Read.{laid}
-use Rattle.rule.specs.own.Packed.{unpacked}
+use Rattle.packed.specs.own.Packed.{unpacked}
 use Rattle.saying.specs.laws.Packed.{laid-more}
-use Rattle.rule.specs.laws.Packed.{node-from}
+use Rattle.packed.specs.laws.Packed.{node-from}
 use native.Mathlib.Omega.{arith}
 use borrow.Author.Needs.{needs}
 use Rattle.saying.proofs.places.unpack.Statement.{statement}

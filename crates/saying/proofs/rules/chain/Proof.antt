@@ -1,7 +1,7 @@
 -- `saying::rules::chain` meets its contract. Assumes nothing.
 use Rattle.text.specs.Split.{fields}
 use Rattle.field.specs.own.Table.{namesOf, tableOf}
-use Rattle.saying.specs.laws.Fields.{rest-count}
+use Rattle.stated.specs.laws.Fields.{rest-count}
 use Rattle.saying.specs.laws.Rules.{chain-head, chain-some}
 use native.Mathlib.Omega.{arith}
 use borrow.Author.Needs.{needs}

@@ -4,9 +4,9 @@ use borrow.Author.Needs.{needs}
 use lib.ListN.{replicate}
 use Rattle.text.specs.Split.{fields}
 use Rattle.field.specs.own.Table.{namesOf, tableOf}
-use Rattle.saying.specs.Read.{itemOf}
-use Rattle.rule.specs.own.Packed.{packLimit}
-use Rattle.saying.specs.laws.Fields.{first-from, rest-count}
+use Rattle.stated.specs.Stated.{itemOf}
+use Rattle.packed.specs.own.Packed.{packLimit}
+use Rattle.stated.specs.laws.Fields.{first-from, rest-count}
 use Rattle.saying.specs.laws.Parse.{reads-long}
 use Rattle.saying.specs.laws.Rules.{in-first, in-room, in-rule}
 use Rattle.saying.proofs.rules.in_rule.Statement.{statement}

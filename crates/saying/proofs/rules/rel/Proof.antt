@@ -3,8 +3,8 @@ use mathlib.Core.Path.{_∙_, ap}
 use Rattle.text.specs.Split.{fields}
 use Rattle.rule.specs.declared.Head.the-variants as head
 use Rattle.field.specs.own.Table.{namesOf, tableOf}
-use Rattle.saying.specs.Read.{itemOf, roleUseOf}
-use Rattle.saying.specs.laws.Fields.{ap₃, field-from, first-from}
+use Rattle.stated.specs.Stated.{itemOf, roleUseOf}
+use Rattle.stated.specs.laws.Fields.{ap₃, field-from, first-from}
 use borrow.Author.Needs.{needs}
 use Rattle.saying.proofs.rules.rel.Statement.{statement}
 use Rattle.saying.proofs.rules.rel.Tie as tie

@@ -5,8 +5,9 @@ use Rattle.rule.specs.declared.Head.{Head}
 use Rattle.rule.specs.declared.Head.the-variants as head
 use Rattle.rule.specs.declared.RoleUse.{RoleUse}
 use Rattle.field.specs.own.Table.{namesOf, tableOf}
-use Rattle.saying.specs.Read.{bare as bareRule, roleUseOf}
-use Rattle.saying.specs.laws.Fields.{first-from}
+use Rattle.saying.specs.Read.{bare as bareRule}
+use Rattle.stated.specs.Stated.{roleUseOf}
+use Rattle.stated.specs.laws.Fields.{first-from}
 use borrow.Author.Needs.{needs}
 use Rattle.saying.proofs.rules.rule_of.Statement.{statement}
 use Rattle.saying.proofs.rules.rule_of.Tie as tie

@@ -3,8 +3,8 @@ use mathlib.Core.Path.{_∙_, ap, ap₂}
 use Rattle.text.specs.Split.{fields}
 use Rattle.rule.specs.declared.Head.the-variants as head
 use Rattle.field.specs.own.Table.{namesOf, tableOf}
-use Rattle.saying.specs.Read.{itemOf}
-use Rattle.saying.specs.laws.Fields.{field-from, first-from}
+use Rattle.stated.specs.Stated.{itemOf}
+use Rattle.stated.specs.laws.Fields.{field-from, first-from}
 use borrow.Author.Needs.{needs}
 use Rattle.saying.proofs.rules.same.Statement.{statement}
 use Rattle.saying.proofs.rules.same.Tie as tie

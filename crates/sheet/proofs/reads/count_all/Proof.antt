@@ -11,7 +11,7 @@ use Rattle.sheet.specs.Said.Outcome.{accepted}
 use Rattle.field.specs.own.Table.{namesOf, tableOf}
 use Rattle.sheet.specs.laws.Count.{Turn, counted-few, counted-more, counted-none, turn-end, turn-next, turn-paused, turn-since}
 use Rattle.sheet.specs.laws.Pass.{accepted-start, passing-since}
-use Rattle.sheet.specs.laws.Stands.{counts-of}
+use Rattle.field.specs.laws.Table.{counts-of}
 use borrow.Author.Needs.{needs}
 use native.Mathlib.Omega.{arith}
 use Rattle.sheet.proofs.reads.count_all.Statement.{statement}

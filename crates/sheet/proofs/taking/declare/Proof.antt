@@ -1,6 +1,6 @@
 -- `sheet::taking::declare` meets its contract. Assumes nothing.
 use native.Mathlib.Omega.{arith}
-use Rattle.text.specs.laws.Ends.{room-between}
+use Rattle.reader.specs.laws.Ends.{room-between}
 use Rattle.text.specs.laws.Name.{name-bounds}
 use borrow.Author.Needs.{needs}
 use Rattle.sheet.proofs.taking.declare.Statement.{statement}

@@ -1,0 +1,5 @@
+-- What is proved of the definitions of a query's body.
+pub mod Body
+pub mod Length
+pub mod Writing
+pub mod Capped

@@ -1,0 +1,2 @@
+-- What is proved of what is due.
+pub mod Due

@@ -1,0 +1,2 @@
+-- What is proved of how often nodes are used.
+pub mod Form

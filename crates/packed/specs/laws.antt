@@ -1,0 +1,2 @@
+-- What is proved of nodes as numbers.
+pub mod Packed

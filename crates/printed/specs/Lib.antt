@@ -1,0 +1,3 @@
+-- The lines that are printed for a sheet. There is nothing to believe here: the code's own records in own, what is proved of them in laws.
+pub mod own
+pub mod laws

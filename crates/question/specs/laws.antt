@@ -1,0 +1,2 @@
+-- What is proved of questions.
+pub mod Asked

@@ -1,0 +1,2 @@
+-- What is proved of lines told to be statements.
+pub mod Quick

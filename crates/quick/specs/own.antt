@@ -1,0 +1,2 @@
+-- The code's own records, which no promise mentions.
+pub mod Quick

@@ -1,2 +1,0 @@
--- The code's own records, which no promise mentions.
-pub mod Packed
