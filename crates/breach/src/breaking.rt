@@ -8,14 +8,16 @@ ghost use Rattle.row.specs.own.Pick.{Marks, room};
 ghost use Rattle.store.specs.Layout.{ClosedStore, Holds};
 ghost use Rattle.store.specs.own.Laid.{Laid};
 ghost use Rattle.rule.specs.Breaks.{BreaksPair};
+ghost use Rattle.rule.specs.Meaning.{Linked};
 ghost use Rattle.packed.specs.own.Packed.{packLimit, slotsOf};
-ghost use Rattle.breach.specs.own.Plan.{BreaksBy, PlaceBreaks, Planned, RootRow, isPair, isSub, leftRoot, rightRoot};
+ghost use Rattle.breach.specs.own.Plan.{Beside, BreaksBy, PlaceBreaks, Planned, RootRow, isPair, isSub, leftRoot, rightRoot};
 ghost use Rattle.store.specs.Cell.{DeclaredItem};
 use crate::Plan;
 use crate::Root;
+use packed::Packed;
 use row::Row;
 use rule::Head;
-use packed::Packed;
+use rule::RoleUse;
 use rule::Rule;
 use store::Counts;
 use store::Item;
@@ -115,6 +117,17 @@ fn named(counts: Counts, x: usize, a: Item, b: Item, on: bool) -> Row
     r
 }
 
+// The items that the role, or its inverse, links x to, if the row has an item; if it has none, no link is looked up.
+fn links_beside(words: &[u64], at: Layout, counts: Counts, on: &Row, u: RoleUse, x: usize) -> Row
+    requires { ⌜ Laid at (now words) × ClosedStore (at .width) counts (now words) × DeclaredItem counts x ⌝ }
+    ensures { λ r. ⌜ Beside (counts .items) (now (on .entry)) r (Linked (Holds (at .width) counts (now (words .entry))) u x) ⌝ }
+{
+    if row::pick::next(on, 0, counts.items) == counts.items {
+        return row::pick::empty();
+    }
+    links::found::links(words, at, counts, u, x)
+}
+
 // The items y with which x breaks the rule.
 pub fn pair_row(words: &[u64], at: Layout, counts: Counts, head: Head, x: usize) -> Row
     requires { ⌜ Laid at (now words) × ClosedStore (at .width) counts (now words) × DeclaredItem counts x ⌝ }
@@ -124,17 +137,17 @@ pub fn pair_row(words: &[u64], at: Layout, counts: Counts, head: Head, x: usize)
         Head::Sub(_, _) => row::pick::empty(),
         Head::RoleSub(u, v) => {
             let on = links::found::links(words, at, counts, u, x);
-            row::pick::without(&on, &links::found::links(words, at, counts, v, x))
+            row::pick::without(&on, &links_beside(words, at, counts, &on, v, x))
         }
         Head::Chain(k, a, b, c, d, u) => {
             let on = links::reach::path_row(words, at, counts, k, a, b, c, d, x);
-            row::pick::without(&on, &links::found::links(words, at, counts, u, x))
+            row::pick::without(&on, &links_beside(words, at, counts, &on, u, x))
         }
         Head::Ref(_) => row::pick::empty(),
         Head::Irr(_) => row::pick::empty(),
         Head::Dis(u, v) => {
             let on = links::found::links(words, at, counts, u, x);
-            row::pick::meet(&on, &links::found::links(words, at, counts, v, x))
+            row::pick::meet(&on, &links_beside(words, at, counts, &on, v, x))
         }
         Head::In(_, _) => row::pick::empty(),
         Head::Rel(u, a, b) => {

@@ -9,23 +9,24 @@ use Rattle.logic.specs.own.Decides.{Decides}
 use Rattle.row.specs.own.Row.{RowHas}
 use Rattle.row.specs.own.Pick.{Empty, Marked, Marks, Met, Without, room}
 use Rattle.row.specs.laws.Marks.{marks-never}
+use Rattle.breach.specs.own.Plan.{Beside}
 
 module _ {n : ℕ} where
-  module _ {a b r : List ℕ} {P Q : ℕ → Type 0} (small : n ≤ 64 * room) (f : Marks n a P) (g : Marks n b Q) where
+  module _ {a b r : List ℕ} {P Q : ℕ → Type 0} (small : n ≤ 64 * room) (f : Marks n a P) (g : Beside n a b Q) where
     -- what both rows mark
     pub marks-met : Met a b r → Marks n r (λ y. P y × Q y)
     marks-met m =
         record {
-          sound = λ y h. let z = f .sound y (m .left y h) in (z .0, (z .1, g .sound y (m .right y h) .1));
-          whole = λ y l h. m .has y (omega arith) (f .whole y l (h .0)) (g .whole y l (h .1));
+          sound = λ y h. let z = f .sound y (m .left y h) in (z .0, (z .1, g y (z .0) (m .left y h) .sound y (m .right y h) .1));
+          whole = λ y l h. let k = f .whole y l (h .0) in m .has y (omega arith) k (g y l k .whole y l (h .1));
         }
 
     -- what one marks and the other does not
     pub marks-without : Without a b r → Marks n r (λ y. P y × ¬ (Q y))
     marks-without m =
         record {
-          sound = λ y h. let z = f .sound y (m .left y h) in (z .0, (z .1, λ q. m .right y h (g .whole y (z .0) q)));
-          whole = λ y l h. m .has y (omega arith) (f .whole y l (h .0)) (λ q. h .1 (g .sound y q .1));
+          sound = λ y h. let z = f .sound y (m .left y h) in (z .0, (z .1, λ q. m .right y h (g y (z .0) (m .left y h) .whole y (z .0) q)));
+          whole = λ y l h. let k = f .whole y l (h .0) in m .has y (omega arith) k (λ q. h .1 (g y l k .sound y q .1));
         }
 
   module _ {x a b : ℕ} {on : Bool} where

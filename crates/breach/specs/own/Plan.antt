@@ -3,7 +3,7 @@
 use mathlib.Core.Path.{_≡_}
 use mathlib.Core.Bool.{Bool, true, false}
 use mathlib.Core.List.{List}
-use Prim.Native.Nat.{ℕ}
+use Prim.Native.Nat.{ℕ, _<_}
 use Rattle.row.specs.own.Row.{RowHas}
 use Rattle.row.specs.own.Pick.{Marks}
 use Rattle.store.specs.declared.Counts.{Counts}
@@ -129,3 +129,7 @@ PlaceIf C n p x true y = BreaksPair C n (p .head) x y
 -- the same of the plan's own rule
 abbrev pub PlaceBreaks : (Cell → Type 0) → Counts → Plan → ℕ → ℕ → Type 0
 PlaceBreaks C n p x y = PlaceIf C n p x (isPair (p .head)) y
+
+-- the row r marks what is as P says, if the row `on` has a number below n
+abbrev pub Beside : ℕ → List ℕ → List ℕ → (ℕ → Type 0) → Type 0
+Beside n on r P = (y : ℕ) → y < n → RowHas on y → Marks n r P

@@ -19,8 +19,8 @@ enum-known-head c = search needs
 links-requires : tie.Need-links-requires
 links-requires c κs = search needs
 
-links-requires-2 : tie.Need-links-requires-2
-links-requires-2 c κs = search needs
+links-beside-requires : tie.Need-links-beside-requires
+links-beside-requires c κs = search needs
 
 without-requires : tie.Need-without-requires
 without-requires c κs = search needs
@@ -31,8 +31,8 @@ enum-known-head-2 c = search needs
 path-row-requires : tie.Need-path-row-requires
 path-row-requires c κs = search needs
 
-links-requires-3 : tie.Need-links-requires-3
-links-requires-3 c κs = search needs
+links-beside-requires-2 : tie.Need-links-beside-requires-2
+links-beside-requires-2 c κs = search needs
 
 without-requires-2 : tie.Need-without-requires-2
 without-requires-2 c κs = search needs
@@ -52,11 +52,11 @@ empty-requires-3 c κs = search needs
 enum-known-head-3 : tie.Need-enum-known-head-3
 enum-known-head-3 c = search needs
 
-links-requires-4 : tie.Need-links-requires-4
-links-requires-4 c κs = search needs
+links-requires-2 : tie.Need-links-requires-2
+links-requires-2 c κs = search needs
 
-links-requires-5 : tie.Need-links-requires-5
-links-requires-5 c κs = search needs
+links-beside-requires-3 : tie.Need-links-beside-requires-3
+links-beside-requires-3 c κs = search needs
 
 meet-requires : tie.Need-meet-requires
 meet-requires c κs = search needs
@@ -107,10 +107,10 @@ returns : tie.Need-returns
 returns c = rw (c .before .enum-told .given .1) (marks-never (c .empty .ensures) (λ y l z. z))
 
 returns-2 : tie.Need-returns-2
-returns-2 c = rw (c .before .before .before .before .before .before .head .given .1) (marks-without (omega (arith, c .before .before .before .before .before .before .before .before .before .pre .0 .wide, c .before .before .before .before .before .before .before .before .before .pre .1 .fits .items)) (c .before .before .before .before .links .ensures) (c .before .before .links2 .ensures) (c .without .ensures))
+returns-2 c = rw (c .before .before .before .before .before .before .before .head .given .1) (marks-without (omega (arith, c .before .before .before .before .before .before .before .before .before .before .pre .0 .wide, c .before .before .before .before .before .before .before .before .before .before .pre .1 .fits .items)) (c .before .before .before .before .before .links .ensures) (c .before .before .links-beside .ensures) (c .without .ensures))
 
 returns-3 : tie.Need-returns-3
-returns-3 c = rw (c .before .before .before .before .before .before .head2 .given .1) (marks-without (omega (arith, c .before .before .before .before .before .before .before .before .before .pre .0 .wide, c .before .before .before .before .before .before .before .before .before .pre .1 .fits .items)) (c .before .before .before .before .path-row .ensures) (c .before .before .links3 .ensures) (c .without2 .ensures))
+returns-3 c = rw (c .before .before .before .before .before .before .before .head2 .given .1) (marks-without (omega (arith, c .before .before .before .before .before .before .before .before .before .before .pre .0 .wide, c .before .before .before .before .before .before .before .before .before .before .pre .1 .fits .items)) (c .before .before .before .before .before .path-row .ensures) (c .before .before .links-beside2 .ensures) (c .without2 .ensures))
 
 returns-4 : tie.Need-returns-4
 returns-4 c = rw (c .before .enum-told2 .given .1) (marks-never (c .empty2 .ensures) (λ y l z. z))
@@ -119,7 +119,7 @@ returns-5 : tie.Need-returns-5
 returns-5 c = rw (c .before .enum-told3 .given .1) (marks-never (c .empty3 .ensures) (λ y l z. z))
 
 returns-6 : tie.Need-returns-6
-returns-6 c = rw (c .before .before .before .before .before .before .head3 .given .1) (marks-met (omega (arith, c .before .before .before .before .before .before .before .before .before .pre .0 .wide, c .before .before .before .before .before .before .before .before .before .pre .1 .fits .items)) (c .before .before .before .before .links4 .ensures) (c .before .before .links5 .ensures) (c .meet .ensures))
+returns-6 c = rw (c .before .before .before .before .before .before .before .head3 .given .1) (marks-met (omega (arith, c .before .before .before .before .before .before .before .before .before .before .pre .0 .wide, c .before .before .before .before .before .before .before .before .before .before .pre .1 .fits .items)) (c .before .before .before .before .before .links2 .ensures) (c .before .before .links-beside3 .ensures) (c .meet .ensures))
 
 returns-7 : tie.Need-returns-7
 returns-7 c = rw (c .before .enum-told4 .given .1) (marks-never (c .empty4 .ensures) (λ y l z. z))
@@ -144,19 +144,19 @@ pair-row-spec =
     empty-requires
     enum-known-head
     links-requires
-    links-requires-2
+    links-beside-requires
     without-requires
     enum-known-head-2
     path-row-requires
-    links-requires-3
+    links-beside-requires-2
     without-requires-2
     enum-told-2
     empty-requires-2
     enum-told-3
     empty-requires-3
     enum-known-head-3
-    links-requires-4
-    links-requires-5
+    links-requires-2
+    links-beside-requires-3
     meet-requires
     enum-told-4
     empty-requires-4
