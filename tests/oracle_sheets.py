@@ -1,10 +1,10 @@
 """Whole sheets of document 01, worked out in the plainest way.
 
 The tests hold the library and the program `check` against this file. It is written
-from document 01 alone (sections "Sheets", "Numbers of refusal" and "Examples", with
-the points of reading that docs/DECISIONS.md takes). Of every line all the numbers that
-apply are collected, and the least is given; the store and the findings come from
-tests/oracle.py and tests/oracle_rules.py.
+from document 01 (sections "Sheets", "Numbers of refusal" and "Examples", with the
+points of reading that docs/DECISIONS.md takes) and from request 3 of document 02 alone.
+Of every line all the numbers that apply are collected, and the least is given; the store
+and the findings come from tests/oracle.py and tests/oracle_rules.py.
 
 A field is a text with a place for it: what should stand there is one of
 
@@ -17,6 +17,7 @@ and an expression is a tuple: its kind and its parts, as in tests/oracle_rules.p
 with names and counts still as they are written.
 """
 
+import calendar
 import re
 from collections import namedtuple
 
@@ -35,6 +36,7 @@ MOST_NAMES = {"concept": 32, "role": 16, "item": 128}
 HEADER = "sheet\t1"
 ALL_ZERO = (0,) * oracle.WORDS
 MONTHS = ("jan", "feb", "mar", "apr", "may", "jun", "jul", "aug", "sep", "oct", "nov", "dec")
+LEAP_YEAR = 2000
 
 # What a sheet comes to. A sheet that is not refused has no line and number; `faults` are all the numbers that
 # apply to the line; `words` are None where the store is untouched; a finding is a rule's number from 0, an item
@@ -167,10 +169,17 @@ def is_concept_name(text):
     return is_name(text) and text not in OPERATORS
 
 
-# "one or two digits of value 1 to 31, a hyphen, a month's first three English letters in either case, nothing else"
+# "the day exists in that month, 29 in February" (document 02, request 3): the days of a month in a leap year.
+def days_of(month):
+    return calendar.monthrange(LEAP_YEAR, MONTHS.index(month) + 1)[1]
+
+
+# "one or two digits [..], a hyphen, a month's first three English letters in either case, nothing else"
 def is_date(text):
     parts = re.fullmatch("([0-9]{1,2})-([A-Za-z]{3})", text)
-    return parts is not None and 1 <= int(parts.group(1)) <= 31 and parts.group(2).lower() in MONTHS
+    if parts is None or parts.group(2).lower() not in MONTHS:
+        return False
+    return 1 <= int(parts.group(1)) <= days_of(parts.group(2).lower())
 
 
 # The name of a role, without the `~` that may stand before it.

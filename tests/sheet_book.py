@@ -50,13 +50,16 @@ def draw_text(rng):
 
 # A date-shaped text.
 def draw_date(rng):
-    month = "".join(rng.choice((letter, letter.upper())) for letter in rng.choice(oracle_sheets.MONTHS))
-    return f"{rng.choice(('', '0'))}{rng.randint(1, 9)}-{month}" if rng.random() < 0.4 else f"{rng.randint(1, 31)}-{month}"
+    month = rng.choice(oracle_sheets.MONTHS)
+    letters = "".join(rng.choice((letter, letter.upper())) for letter in month)
+    day = rng.randint(1, 9) if rng.random() < 0.4 else rng.randint(1, oracle_sheets.days_of(month))
+    return f"{rng.choice(('', '0')) if day < 10 else ''}{day}-{letters}"
 
 
 # A name for a kind, of any sort that may be declared.
 def draw_name(rng, kind):
-    odd = ["concept", "sheet", "rule", "AND", "Top", "1", "0", "-", "32-Mar", "0-Jan", "3-Mar-", "003-Mar", "MAR-03"]
+    odd = ["concept", "sheet", "rule", "AND", "Top", "1", "0", "-", "32-Mar", "0-Jan", "3-Mar-", "003-Mar", "MAR-03",
+           "30-FEB", "31-feb", "31-Jun"]
     if kind != "item":
         odd += [draw_date(rng)]
     if kind != "concept":

@@ -226,7 +226,7 @@ def damaged(seed, sheets):
 def soup(seed, sheets):
     rng = part(seed, "soup")
     vocabulary = [*DECLARATIONS, *STATEMENTS, "rule", *RULES, *OPERATORS, "sheet", "1", "2", "8", "9", "0", "a", "b", "A",
-                  "B", "r", "~r", "~", "", " ", "3-Mar"]
+                  "B", "r", "~r", "~", "", " ", "3-Mar", "30-Feb"]
     few = ["a", "b", "A", "B", "r", "~r", "s", "2", "top", "not", "some", "and"]
     for number in range(sheets):
         head = lines_of("sheet 1\nconcept A\nconcept B\nrole r\nrole s\nitem a\nitem b")

@@ -17,6 +17,7 @@ lines_sound, unknown_sound = sheets.lines_of, sheets.word_unknown
 fields_faults_sound, new_name_sound, name_faults_sound = sheets.fields_faults, sheets.new_name_faults, sheets.name_faults
 field_faults_sound, count_sound, rule_faults_sound = sheets.field_faults, sheets.count_faults, sheets.rule_faults
 places_sound, accept_sound, date_sound, cell_sound = sheets.places_of, sheets.accept, sheets.is_date, sheets.cell_of
+days_sound = sheets.days_of
 findings_sound, finding_line_sound, refused_sound = sheets.findings_of, sheets.finding_line, sheets.refused
 given_sound, words_sound = sheets.words_if_refused, sheets.words_if_accepted
 numbered_sound = sheets.numbered_lines
@@ -238,13 +239,18 @@ def dates_by(days, months, least=1, most=31):
     def is_date(text):
         parts = re.fullmatch(f"({days})-({months})", text)
         return (parts is not None and parts.group(2).lower() in sheets.MONTHS
-                and least <= int(parts.group(1)) <= most)
+                and least <= int(parts.group(1)) <= min(most, sheets.days_of(parts.group(2).lower())))
     return is_date
 
 
-# Dates of days that the month has.
-def dates_of_calendar(text):
-    return date_sound(text) and not re.fullmatch("3[01]-feb|31-(apr|jun|sep|nov)", text.lower())
+# Months with their days, but for one, which has so many more.
+def days_but(month, more):
+    return lambda other: days_sound(other) + more * (other == month)
+
+
+# Months of 31 and 30 days in turn, to the end of the year.
+def days_in_turn(month):
+    return 29 if month == "feb" else 31 - sheets.MONTHS.index(month) % 2
 
 
 # Date-shaped names refused for all kinds.
@@ -539,15 +545,18 @@ def name_fault_table():
         "dates of two digits are not seen": ("is_date", dates_by("[0-9]", either)),
         "dates of three digits are seen": ("is_date", dates_by("[0-9]{1,3}", either)),
         "day 0 is a day": ("is_date", dates_by("[0-9]{1,2}", either, 0)),
-        "day 32 is a day": ("is_date", dates_by("[0-9]{1,2}", either, 1, 32)),
         "day 31 is none": ("is_date", dates_by("[0-9]{1,2}", either, 1, 30)),
         "dates in capitals are not seen": ("is_date", dates_by("[0-9]{1,2}", "[A-Z][a-z]{2}")),
         "dates of mixed letters are not seen": ("is_date", dates_by("[0-9]{1,2}", "[A-Z]{3}|[a-z]{3}|[A-Z][a-z]{2}")),
-        "dates are asked of the calendar": ("is_date", dates_of_calendar),
+        "all months have 31 days": ("days_of", lambda month: 31),
+        "all months but February have 31 days": ("days_of", lambda month: 29 if month == "feb" else 31),
+        "months have 31 and 30 days in turn": ("days_of", days_in_turn),
+        **{f"{month} has a day more": ("days_of", days_but(month, 1)) for month in sheets.MONTHS},
+        **{f"{month} has a day less": ("days_of", days_but(month, -1)) for month in sheets.MONTHS},
         "dates may have more after them": ("is_date", lambda text: date_sound(text[:5]) or date_sound(text[:6])),
         "dates may be the other way round": ("is_date",
                                              lambda text: date_sound(text) or date_sound("-".join(text.split("-")[::-1]))),
-        "May is no month": ("MONTHS", tuple(month for month in sheets.MONTHS if month != "may")),
+        "May is no month": ("is_date", lambda text: date_sound(text) and not text.lower().endswith("may")),
         "dates are refused for all kinds": ("new_name_faults", dates_of_all_kinds),
         "dates are refused where used": ("name_faults", dates_where_used),
         "names are of one kind only": ("new_name_faults", declared_in_any_kind),

@@ -3,9 +3,10 @@
 Each has the line and number that are due, written by hand or made with the sheet.
 """
 
-import oracle_sheets
+from itertools import product
+
 from oracle_sheets import DECLARATIONS, LINE_BYTES, MOST_NAMES, MOST_RULES, NAME_BYTES, OPERATORS, SHEET_BYTES, STATEMENTS
-from sheet_book import ACCEPTED, HEADER, NAME_LETTERS, NODES, Case, lines_of, named, part, sheet_of, words
+from sheet_book import ACCEPTED, HEADER, NAME_LETTERS, NODES, Case, draw_date, lines_of, named, part, sheet_of, words
 from store_cases import require
 
 # Headers and what is no header.
@@ -116,25 +117,49 @@ def every_byte():
             yield Case(f"byte-{ord(letter)}-{name}", (before + line + "\n").encode("latin-1"), places[name])
 
 
-# Dates and what only looks like one.
+# The last day of each month, written by hand from document 02, request 3.
+LAST_DAYS = {"jan": 31, "feb": 29, "mar": 31, "apr": 30, "may": 31, "jun": 30, "jul": 31, "aug": 31, "sep": 30, "oct": 31,
+             "nov": 30, "dec": 31}
+
+
+# A month's letters, each small or a capital, in every way.
+def letter_cases(month):
+    return ["".join(letters) for letters in product(*((letter, letter.upper()) for letter in month))]
+
+
+# Every day of every month, with one digit and with two, in all letter cases; days before the first and after the last.
+def days():
+    texts = [*map(str, range(10)), *(f"{day:02}" for day in range(34)), "99"]
+    for month, last in LAST_DAYS.items():
+        for text in (f"{day}-{letters}" for letters in letter_cases(month) for day in texts):
+            due = (2, 16) if 1 <= int(text.split("-")[0]) <= last else ACCEPTED
+            yield Case(f"day-{text}", sheet_of([HEADER, ["item", text]]), due)
+
+
+# What only looks like a date; and dates where no item is declared.
 def dates(seed):
     rng = part(seed, "date")
-    months = [month.capitalize() for month in oracle_sheets.MONTHS]
-    shaped = [f"{day}-{rng.choice(months)}" for day in (*range(1, 32), *(f"{day:02}" for day in range(1, 10)))]
-    for month in months:
-        shaped += [f"{rng.randint(1, 31)}-{text}" for text in (month, month.upper(), month.lower(), month.swapcase())]
-        shaped += [f"31-{month}", f"3-{month[0].lower()}{month[1].upper()}{month[2]}", f"03-{month[:2].upper()}{month[2]}"]
-    others = [f"{day}-{rng.choice(months)}" for day in ("0", "00", "32", "33", "40", "99", "003", "031", "100", "", "x")]
+    months = [month.capitalize() for month in LAST_DAYS]
+    others = [f"{day}-{rng.choice(months)}" for day in ("40", "003", "031", "100", "", "x")]
     others += ["MAR-03", "Mar-3", "3-Ma", "3-Marc", "3-March", "3-M", "3-", "3", "3Mar", "3_Mar", "3.Mar", "3/Mar", "3--Mar",
-               "3-Mar-", "3-Mar-26", "-3-Mar", "3-Mai", "3-Okt", "3-Dez", "3-Abc", "3-Mrz", "3-JanFeb", "3-anu", "33-Mar",
-               "1-1-Jan"]
-    for text, number in [(text, 16) for text in sorted(set(shaped))] + [(text, None) for text in dict.fromkeys(others)]:
-        yield Case(f"date-item-{text}", sheet_of([HEADER, ["item", text]]), (2, number) if number else ACCEPTED)
-    for text in rng.sample(sorted(set(shaped)), 20):
+               "3-Mar-", "3-Mar-26", "-3-Mar", "3-Mai", "3-Okt", "3-Dez", "3-Abc", "3-Mrz", "3-JanFeb", "3-anu", "1-1-Jan"]
+    for text in dict.fromkeys(others):
+        yield Case(f"date-item-{text}", sheet_of([HEADER, ["item", text]]), ACCEPTED)
+    for text in sorted({draw_date(rng) for _ in range(20)}):
         yield Case(f"date-concept-{text}", sheet_of([HEADER, ["concept", text]]), ACCEPTED)
         yield Case(f"date-role-{text}", sheet_of([HEADER, ["role", text]]), ACCEPTED)
         yield Case(f"date-used-{text}", sheet_of([HEADER, ["item", "a"], ["same", "a", text]]), (3, 19))
         yield Case(f"date-blank-{text}", sheet_of([HEADER, ["item", text + " "]]), (2, 15))
+
+
+# Codes that were dates in document 01: declared and used, declared again, and one with a date after it.
+def blades():
+    codes = ["30-FEB", "31-feb", "31-Apr", "31-jun", "31-SEP", "31-Nov"]
+    declared = [HEADER, ["role", "r"], *(["item", code] for code in codes)]
+    used = lines_of("rel r 30-FEB 31-feb\nsame 31-Apr 31-Nov\nrule irr r\nrule ref r\nrule same 31-SEP 31-jun")
+    yield Case("blade-used", sheet_of([*declared, *used]), ACCEPTED)
+    yield Case("blade-again", sheet_of([*declared, ["item", "30-FEB"]]), (9, 17))
+    yield Case("blade-and-date", sheet_of([*declared, ["item", "30-feb"], ["item", "29-feb"]]), (10, 16))
 
 
 # --- Limits ---
@@ -166,6 +191,7 @@ def table_limits():
         yield Case(f"table-{kind}-others", sheet_of([*full, *([other, "x"] for other in DECLARATIONS if other != kind)]),
                    ACCEPTED)
     yield Case("table-item-date", sheet_of([HEADER, *named("item", 128), ["item", "3-Mar"]]), (130, 16))
+    yield Case("table-item-blade", sheet_of([HEADER, *named("item", 128), ["item", "30-FEB"]]), (130, 18))
     everything = [HEADER, *named("concept", 32), *named("role", 16), *named("item", 128)]
     yield Case("table-all-full", sheet_of([*everything, words("rule in n31 n127"), words("rule ref n15")]), ACCEPTED)
     yield from rule_limits()
@@ -285,4 +311,6 @@ def all_cases(seed):
     for made in (headers, small_lines, counts, every_byte, name_limits, table_limits, node_limits, past_nodes, line_limits,
                  sheet_limits, sections):
         yield from made()
+    yield from days()
     yield from dates(seed)
+    yield from blades()

@@ -26,7 +26,8 @@ enum sheet_fault {
     EMPTY_NOT_NUMBERED,     /* empty lines are not numbered */
     OR_WITHOUT_NOT,         /* or is expanded without its outer not */
     ATMOST_ONE_LESS,        /* at most n is read as less than n */
-    LEFT_INVERSE_PASSED     /* `~` on the left of runder is passed over */
+    LEFT_INVERSE_PASSED,    /* `~` on the left of runder is passed over */
+    MONTHS_OF_31_DAYS       /* all months have 31 days */
 };
 
 PLANTED(SHEET_FAULT, NO_SHEET_FAULT)
@@ -153,6 +154,13 @@ static struct piece role_name(struct piece piece)
     return is_inverse(piece) ? rest : piece;
 }
 
+/* The days of a month, from 0, 29 in February. */
+static int days_of(size_t month)
+{
+    static const int DAYS[] = {31, 29, 31, 30, 31, 30, 31, 31, 30, 31, 30, 31};
+    return SHEET_FAULT == MONTHS_OF_31_DAYS ? 31 : DAYS[month];
+}
+
 /* Whether a piece is date-shaped. */
 static int is_date(struct piece piece)
 {
@@ -166,7 +174,7 @@ static int is_date(struct piece piece)
             return 0;
         day = 10 * day + piece.at[i] - '0';
     }
-    if (day < 1 || day > 31 || piece.at[digits] != '-')
+    if (day < 1 || piece.at[digits] != '-')
         return 0;
     for (const char *month = MONTHS; *month != 0; month += 3) {
         int same = 1;
@@ -175,7 +183,7 @@ static int is_date(struct piece piece)
             same = same && (c == (uint8_t)month[i] || c == (uint8_t)(month[i] - 'a' + 'A'));
         }
         if (same)
-            return 1;
+            return day <= days_of((size_t)(month - MONTHS) / 3);
     }
     return 0;
 }

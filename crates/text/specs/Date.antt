@@ -1,8 +1,8 @@
--- Date-shaped: one or two digits of value 1 to 31, a hyphen, a month's first three English letters in either case, nothing else.
+-- Date-shaped: one or two digits, a hyphen, a month's first three English letters in either case, nothing else; and the day exists in that month, 29 in February.
 use mathlib.Core.Bool.{Bool, false, cond}
 use mathlib.Core.List.{List, [], _∷_}
 use Prim.Native.Nat.{ℕ, _+_, _-_, _*_}
-use lib.Dec.{leb, ltb, eqb}
+use lib.Dec.{leb, eqb}
 use lib.ListN.{length, getD}
 use Rattle.text.specs.Bytes.{between, lower, place}
 use Rattle.text.specs.Split.{words}
@@ -23,9 +23,17 @@ months = words "jan feb mar apr may jun jul aug sep oct nov dec"
 abbrev pub month : ℕ → ℕ → ℕ → ℕ
 month a b c = place (lower a ∷ lower b ∷ lower c ∷ []) months
 
--- a day's value, a hyphen and a month's place
+-- the days of the months, 29 in February
+abbrev pub days : List ℕ
+days = 31 ∷ 29 ∷ 31 ∷ 30 ∷ 31 ∷ 30 ∷ 31 ∷ 31 ∷ 30 ∷ 31 ∷ 30 ∷ 31 ∷ []
+
+-- the days of the month at a place; 0 where there is no month
+unfoldable pub daysIn : ℕ → ℕ
+daysIn m = getD days m 0
+
+-- a day's value that exists in the month at a place, and a hyphen
 unfoldable pub dated : ℕ → ℕ → ℕ → Bool
-dated day hyphen m = cond (between 1 day 31) (cond (eqb hyphen 45) (ltb m 12) false) false
+dated day hyphen m = cond (eqb hyphen 45) (between 1 day (daysIn m)) false
 
 -- the bytes are date-shaped
 unfoldable pub dateShaped : List ℕ → Bool

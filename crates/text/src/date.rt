@@ -1,6 +1,9 @@
 ghost use mathlib.Core.Path.{_≡_};
 ghost use Rattle.text.specs.Bytes.{lower as lowerOf};
-ghost use Rattle.text.specs.Date.{digit as digitOf, twoDigits, month as monthOf, dated, dateShaped};
+ghost use Rattle.text.specs.Date.{digit as digitOf, twoDigits, month as monthOf, daysIn, dated, dateShaped};
+
+// The days of the months, 29 in February.
+const DAYS: [u8; 12] = [31, 29, 31, 30, 31, 30, 31, 31, 30, 31, 30, 31];
 
 // A-Z as a-z.
 fn lower(b: u8) -> u8
@@ -51,14 +54,24 @@ fn two_digits(a: u8, b: u8) -> u8
     255
 }
 
-// Whether a day's value, a byte and a month's place make a date.
-fn day_in(day: u8, hyphen: u8, month: usize) -> bool
-    ensures { λ r. ⌜ r ≡ dated day hyphen month ⌝ }
+// The days of the month at a place; 0 where there is no month.
+fn days_in(month: usize) -> u8
+    ensures { λ r. ⌜ r ≡ daysIn month ⌝ }
 {
-    if 1 <= day {
-        if day <= 31 {
-            if hyphen == 45 {
-                return month < 12;
+    if month < 12 {
+        return DAYS[month];
+    }
+    0
+}
+
+// Whether a day's value, a byte and three letters make a date.
+fn is_date(day: u8, hyphen: u8, a: u8, b: u8, c: u8) -> bool
+    ensures { λ r. ⌜ r ≡ dated day hyphen (monthOf a b c) ⌝ }
+{
+    if hyphen == 45 {
+        if 1 <= day {
+            if day <= 31 {
+                return day <= days_in(month(a, b, c));
             }
             return false;
         }
@@ -73,10 +86,10 @@ pub fn date_shaped(s: &[u8]) -> bool
 {
     let n = s.len();
     if n == 5 {
-        return day_in(digit(s[0]), s[1], month(s[2], s[3], s[4]));
+        return is_date(digit(s[0]), s[1], s[2], s[3], s[4]);
     }
     if n == 6 {
-        return day_in(two_digits(s[0], s[1]), s[2], month(s[3], s[4], s[5]));
+        return is_date(two_digits(s[0], s[1]), s[2], s[3], s[4], s[5]);
     }
     false
 }

@@ -9,6 +9,7 @@ use lib.Dec.{leb}
 use lib.ListN.{length, drop}
 use Rattle.text.specs.Bytes.{place}
 use Rattle.text.specs.Date.{dateShaped}
+use Rattle.text.specs.laws.Dates.{datedBefore, shapedBy, no-date-before}
 use Rattle.text.specs.Name.{isName}
 use Rattle.store.specs.Layout.{conceptLimit, itemLimit, roleLimit, width}
 use Rattle.field.specs.declared.Due.{Due}
@@ -104,6 +105,14 @@ module _ (n : Names) where
     item-new e =
         let a = fault-none (not (isName f)) 14 (fault (dateShaped f) 16 (newFault (itemLimit width) (n .items) f)) e in
         new-name isName (itemLimit width) (n .items) f (not-false _ (a .0)) (fault-none (dateShaped f) 15 (newFault (itemLimit width) (n .items) f) (a .1) .1)
+
+    -- a name that a new item could have in document 01, where every month had 31 days, it can have now
+    pub item-before : fault (not (isName f)) 15 (fault (shapedBy datedBefore f) 16 (newFault (itemLimit width) (n .items) f)) ≡ 0 → fieldFault n due.NewItem f ≡ 0
+    unfolding fieldFault
+    item-before e =
+        let a = fault-none (not (isName f)) 14 (fault (shapedBy datedBefore f) 16 (newFault (itemLimit width) (n .items) f)) e in
+        let b = fault-none (shapedBy datedBefore f) 15 (newFault (itemLimit width) (n .items) f) (a .1) in
+        rw (a .0, no-date-before f (b .0), b .1)
 
 -- ---- the names that declarations leave
 

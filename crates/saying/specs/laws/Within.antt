@@ -1,13 +1,15 @@
 -- The numbers and counts of an expression that is read from fields with nothing wrong. Assumes nothing.
 use mathlib.Core.Path.{_≡_, refl, sym}
-use mathlib.Core.Bool.{Bool, true, false, cond, not, true≢false}
+use mathlib.Core.Bool.{true, false, not, true≢false}
 use mathlib.Core.List.{List, [], _∷_, _++_}
 use Prim.Native.Nat.{ℕ, zero, suc, _-_, _≤_, _<_}
 use native.Mathlib.Omega.{arith}
-use borrow.Author.Tests.{leb-true, not-false}
-use lib.Dec.{eqb, leb}
+use borrow.Author.Tests.{not-false}
+use lib.Dec.{eqb}
 use lib.ListN.{drop, length, length-drop}
-use Rattle.text.specs.Bytes.{between, place}
+use Rattle.text.specs.Bytes.{place}
+use Rattle.text.specs.laws.Bytes.{between-bounds}
+use Rattle.text.specs.laws.Choice.{cond-true}
 use Rattle.store.specs.declared.Counts.{Counts}
 use Rattle.rule.specs.Expr.{Expr}
 use Rattle.rule.specs.Expr.Expr.{both, many, name, neg, one, own, top}
@@ -42,19 +44,8 @@ module _ (n : Names) (f : Field) where
   concept-inside e h = let q : nameFault (n .concepts) f ≡ 0 = rw (not-reserved f e) at h in name-declared n (n .concepts) f q
 
   -- a count
-  between-bounds : (a b c : ℕ) → between a b c ≡ true → (a ≤ b) × (b ≤ c)
-  between-bounds a b c h = go (leb a b) refl h
-    where
-      go : (t : Bool) → leb a b ≡ t → cond t (leb b c) false ≡ true → (a ≤ b) × (b ≤ c)
-      go true q r = (leb-true a b q, leb-true b c r)
-      go false q r = absurd (true≢false (sym r))
-
   count-bounds : (a c : ℕ) → isCount a c f ≡ true → (a ≤ countOf f) × (countOf f ≤ c)
-  count-bounds a c h = go (eqb (length f) 1) h
-    where
-      go : (t : Bool) → cond t (between a (countOf f) c) false ≡ true → (a ≤ countOf f) × (countOf f ≤ c)
-      go true r = between-bounds a (countOf f) c r
-      go false r = absurd (true≢false (sym r))
+  count-bounds a c h = between-bounds a (countOf f) c (cond-true (eqb (length f) 1) _ h .1)
 
   least-bounds : fieldFault n due.AtLeast f ≡ 0 → (1 ≤ countOf f) × (countOf f ≤ countLimit)
   unfolding fieldFault

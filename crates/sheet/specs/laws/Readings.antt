@@ -5,7 +5,7 @@ use Prim.Native.Nat.{ℕ, _+_, _*_}
 use Prim.Native.String.{String}
 use lib.ListN.{length}
 use Rattle.text.specs.Bytes.{bytes, every, lower, place, same}
-use Rattle.text.specs.Date.{dated, dateShaped, digit, twoDigits}
+use Rattle.text.specs.Date.{dated, dateShaped, daysIn, digit, twoDigits}
 use Rattle.text.specs.Name.{isName, lineByte, nameByte}
 use Rattle.text.specs.Split.{split}
 use Rattle.field.specs.Due.{fits}
@@ -35,13 +35,13 @@ pub readings : map after (
     -- fields too few and too many
     ∷ "concept\ta b\tx" ∷ "rule\tsub\tA\t~not\tA" ∷ "rule\tchain\tr\tr" ∷ "rule\tchain\tr\tr\tr\t"
     -- names and dates
-    ∷ "concept\tand" ∷ "in\ta\tand" ∷ "rule\tsub\tA\t~A" ∷ "rel\t~q\ta\tb" ∷ "item\t3-Mar" ∷ "item\ta"
+    ∷ "concept\tand" ∷ "in\ta\tand" ∷ "rule\tsub\tA\t~A" ∷ "rel\t~q\ta\tb" ∷ "item\t3-Mar" ∷ "item\ta" ∷ "item\t29-Feb" ∷ "item\t30-FEB"
     -- counts and nodes
     ∷ "rule\tsub\tatmost\t8\tr\tA\tA" ∷ "rule\tsub\tor\tA\tor\tA\tor\tA\tor\tA\tor\tA\tor\tA\tA\tnot\tA"
     -- accepted
     ∷ "runder\t~r\tr\nrule\tsub\tsome\t~r\tself\tr\tatmost\t0\tr\tone\ta\n" ∷ []
     )
-    ≡ (615 ∷ 615 ∷ 619 ∷ 612 ∷ 614 ∷ 612 ∷ 612 ∷ 912 ∷ 713 ∷ 713 ∷ 614 ∷ 614 ∷ 614 ∷ 615 ∷ 615 ∷ 615 ∷ 615 ∷ 615 ∷ 616 ∷ 617 ∷ 620 ∷ 621 ∷ 2 ∷ [])
-unfolding lower same place every split dateShaped dated digit twoDigits isName nameByte lineByte operatorOf lineForm ruleForm fits newFault nameFault fieldFault lowerFault fieldFaults nodesIn read size nodesAt
+    ≡ (615 ∷ 615 ∷ 619 ∷ 612 ∷ 614 ∷ 612 ∷ 612 ∷ 912 ∷ 713 ∷ 713 ∷ 614 ∷ 614 ∷ 614 ∷ 615 ∷ 615 ∷ 615 ∷ 615 ∷ 615 ∷ 616 ∷ 617 ∷ 616 ∷ 0 ∷ 620 ∷ 621 ∷ 2 ∷ [])
+unfolding lower same place every split dateShaped dated daysIn digit twoDigits isName nameByte lineByte operatorOf lineForm ruleForm fits newFault nameFault fieldFault lowerFault fieldFaults nodesIn read size nodesAt
     fieldsFault formFault lineFault lineSaid outcomeFrom headerFault outcome
 readings = refl

@@ -6,13 +6,17 @@ use Prim.Native.Nat.{ℕ, zero, suc, _+_, _-_, _<_, _≤_}
 use native.Mathlib.Numerals.{add-one}
 use native.Mathlib.Omega.{arith}
 use native.Mathlib.Decide.{ℕ-discrete}
-use borrow.Author.Tests.{eq-eqb, ne-eqb}
-use lib.Dec.{eqb}
+use borrow.Author.Tests.{eq-eqb, leb-true, ne-eqb}
+use lib.Dec.{eqb, leb}
 use lib.ListN.{length, getD, take, drop, drop-of-length-le, length-drop}
 use lib.Seq.{drop-cons, take-all, take-nil}
-use Rattle.text.specs.Bytes.{every, same, place}
+use Rattle.text.specs.Bytes.{between, every, same, place}
 use Rattle.text.specs.own.Split.{partOf}
-use Rattle.text.specs.laws.Choice.{cond-both}
+use Rattle.text.specs.laws.Choice.{cond-both, cond-true}
+
+-- the bounds of what is between two numbers
+pub between-bounds : (a b c : ℕ) → between a b c ≡ true → (a ≤ b) × (b ≤ c)
+between-bounds a b c e = let p = cond-true (leb a b) (leb b c) e in (leb-true a b (p .0), leb-true b c (p .1))
 
 -- ---- a test of every byte
 
@@ -29,6 +33,13 @@ module _ (p : ℕ → Bool) (s : List ℕ) where
     pub every-stop : p (getD s i 0) ≡ false → every p (drop i s) ≡ false
     unfolding every
     every-stop e = rw (drop-cons s i 0, every, e)
+
+-- what every number of a list passes, and 0, the one at a place passes
+pub every-at : (p : ℕ → Bool) (s : List ℕ) (i : ℕ) → p 0 ≡ true → every p s ≡ true → p (getD s i 0) ≡ true
+unfolding every
+every-at p [] i z e = z
+every-at p (b ∷ s) zero z e = cond-true (p b) (every p s) e .0
+every-at p (b ∷ s) (suc i) z e = every-at p s i z (cond-true (p b) (every p s) e .1)
 
 -- ---- comparing
 

@@ -1,6 +1,6 @@
 -- Choices by a test. Assumes nothing.
 use mathlib.Core.Path.{_≡_, refl, sym}
-use mathlib.Core.Bool.{Bool, true, false, cond}
+use mathlib.Core.Bool.{Bool, true, false, cond, true≢false}
 use Prim.Native.Nat.{ℕ, _≤_, _<_}
 use lib.Dec.{leb}
 use borrow.Author.Tests.{leb-true, leb-false}
@@ -9,6 +9,11 @@ use borrow.Author.Tests.{leb-true, leb-false}
 pub cond-both : {A : Type 0} (P : A → Type 0) (e : Bool) {a b : A} → P a → P b → P (cond e a b)
 cond-both P true x y = x
 cond-both P false x y = y
+
+-- two tests, the second asked after the first: where the answer is yes, both hold
+pub cond-true : (x y : Bool) → cond x y false ≡ true → (x ≡ true) × (y ≡ true)
+cond-true true y e = (refl, e)
+cond-true false y e = absurd (true≢false (sym e))
 
 -- two tests that say yes together are the same
 pub bool-same : (x y : Bool) → (x ≡ true → y ≡ true) → (y ≡ true → x ≡ true) → x ≡ y

@@ -11,27 +11,24 @@ shared-slice-read-digit c = search needs
 digit-requires : tie.Need-digit-requires
 digit-requires c κs = search needs
 
-shared-slice-read-day-in : tie.Need-shared-slice-read-day-in
-shared-slice-read-day-in c = search needs
+shared-slice-read-is-date : tie.Need-shared-slice-read-is-date
+shared-slice-read-is-date c = search needs
 
-shared-slice-read-month : tie.Need-shared-slice-read-month
-shared-slice-read-month c = search needs
+shared-slice-read-is-date-2 : tie.Need-shared-slice-read-is-date-2
+shared-slice-read-is-date-2 c = search needs
 
-shared-slice-read-month-2 : tie.Need-shared-slice-read-month-2
-shared-slice-read-month-2 c = search needs
+shared-slice-read-is-date-3 : tie.Need-shared-slice-read-is-date-3
+shared-slice-read-is-date-3 c = search needs
 
-shared-slice-read-month-3 : tie.Need-shared-slice-read-month-3
-shared-slice-read-month-3 c = search needs
+shared-slice-read-is-date-4 : tie.Need-shared-slice-read-is-date-4
+shared-slice-read-is-date-4 c = search needs
 
-month-requires : tie.Need-month-requires
-month-requires c κs = search needs
-
-day-in-requires : tie.Need-day-in-requires
-day-in-requires c κs = search needs
+is-date-requires : tie.Need-is-date-requires
+is-date-requires c κs = search needs
 
 returns : tie.Need-returns
 unfolding dateShaped
-returns c = simp (eq-eqb _ _ (c .before .before .before .before .before .before .before .before .if1 .taken)) (cc)
+returns c = simp (eq-eqb _ _ (c .before .before .before .before .before .before .before .if1 .taken)) (cc)
 
 shared-slice-read-two-digits : tie.Need-shared-slice-read-two-digits
 shared-slice-read-two-digits c = search needs
@@ -42,27 +39,24 @@ shared-slice-read-two-digits-2 c = search needs
 two-digits-requires : tie.Need-two-digits-requires
 two-digits-requires c κs = search needs
 
-shared-slice-read-day-in-2 : tie.Need-shared-slice-read-day-in-2
-shared-slice-read-day-in-2 c = search needs
+shared-slice-read-is-date-5 : tie.Need-shared-slice-read-is-date-5
+shared-slice-read-is-date-5 c = search needs
 
-shared-slice-read-month-4 : tie.Need-shared-slice-read-month-4
-shared-slice-read-month-4 c = search needs
+shared-slice-read-is-date-6 : tie.Need-shared-slice-read-is-date-6
+shared-slice-read-is-date-6 c = search needs
 
-shared-slice-read-month-5 : tie.Need-shared-slice-read-month-5
-shared-slice-read-month-5 c = search needs
+shared-slice-read-is-date-7 : tie.Need-shared-slice-read-is-date-7
+shared-slice-read-is-date-7 c = search needs
 
-shared-slice-read-month-6 : tie.Need-shared-slice-read-month-6
-shared-slice-read-month-6 c = search needs
+shared-slice-read-is-date-8 : tie.Need-shared-slice-read-is-date-8
+shared-slice-read-is-date-8 c = search needs
 
-month-requires-2 : tie.Need-month-requires-2
-month-requires-2 c κs = search needs
-
-day-in-requires-2 : tie.Need-day-in-requires-2
-day-in-requires-2 c κs = search needs
+is-date-requires-2 : tie.Need-is-date-requires-2
+is-date-requires-2 c κs = search needs
 
 returns-2 : tie.Need-returns-2
 unfolding dateShaped
-returns-2 c = simp (ne-eqb _ _ (c .before .before .before .before .before .before .before .before .before .before .if1 .left), eq-eqb _ _ (c .before .before .before .before .before .before .before .before .before .if2 .taken)) (cc)
+returns-2 c = simp (ne-eqb _ _ (c .before .before .before .before .before .before .before .before .before .if1 .left), eq-eqb _ _ (c .before .before .before .before .before .before .before .before .if2 .taken)) (cc)
 
 returns-3 : tie.Need-returns-3
 unfolding dateShaped
@@ -74,21 +68,19 @@ date-shaped-spec =
     (tie.spec
     shared-slice-read-digit
     digit-requires
-    shared-slice-read-day-in
-    shared-slice-read-month
-    shared-slice-read-month-2
-    shared-slice-read-month-3
-    month-requires
-    day-in-requires
+    shared-slice-read-is-date
+    shared-slice-read-is-date-2
+    shared-slice-read-is-date-3
+    shared-slice-read-is-date-4
+    is-date-requires
     returns
     shared-slice-read-two-digits
     shared-slice-read-two-digits-2
     two-digits-requires
-    shared-slice-read-day-in-2
-    shared-slice-read-month-4
-    shared-slice-read-month-5
-    shared-slice-read-month-6
-    month-requires-2
-    day-in-requires-2
+    shared-slice-read-is-date-5
+    shared-slice-read-is-date-6
+    shared-slice-read-is-date-7
+    shared-slice-read-is-date-8
+    is-date-requires-2
     returns-2
     returns-3)
