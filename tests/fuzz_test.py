@@ -118,8 +118,7 @@ def list_blocks(driver):
 # --- Seeds and words ---
 
 
-# The sheets to begin with: the examples, and those of the other tests, but for the longest and for the many of the calendar,
-# which are all alike to a fuzzer.
+# The sheets to begin with: the examples, and those of the other tests, but for the longest and the many of the calendar.
 def seeds(seed):
     sheets = [path.read_bytes() for path in sorted((harness.ROOT / "examples").glob("*.sheet"))]
     sheets += [case.sheet for case in sheet_cases.all_cases(seed, DRAWN_SHEETS, 1) if not case.name.startswith("day-")]
