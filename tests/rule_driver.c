@@ -217,6 +217,27 @@ static void sub_eight_empty(timed_rule rule)
     sub_nest(rule, 8, SALTREEVE_NODE_NAME);
 }
 
+/* sub: one at least 8 of top on the left, over a role or its inverse, the empty concept on the right. */
+static void sub_one_count(timed_rule rule, uint64_t inverse)
+{
+    head(rule, SALTREEVE_SUB, 0, 2, 0, 0);
+    node(rule, SALTREEVE_NODE_AT_LEAST, 8, 0, inverse, 1);
+    node(rule, SALTREEVE_NODE_TOP, 0, 0, 0, 0);
+    node(rule, SALTREEVE_NODE_NAME, EMPTY, 0, 0, 0);
+}
+
+/* sub: one at least 8 over a role. */
+static void sub_eight(timed_rule rule)
+{
+    sub_one_count(rule, 0);
+}
+
+/* sub: one at least 8 over an inverse. */
+static void sub_eight_inverse(timed_rule rule)
+{
+    sub_one_count(rule, 1);
+}
+
 /* sub: a tree of 15 ands over 16 concepts, as wide as it can be. */
 static void sub_wide_and(timed_rule rule)
 {
@@ -283,6 +304,8 @@ static const struct timing TIMINGS[] = {
     {"sub, 30 nested some of an empty concept", sub_some_empty, 16, 2 * PAIRS, 0, 0},
     {"sub, 30 nested at least 8 of top", sub_eight_top, 16, 2 * PAIRS, 0, 128},
     {"sub, 30 nested at least 8 of an empty concept", sub_eight_empty, 16, 2 * PAIRS, 0, 0},
+    {"sub, one at least 8 of top", sub_eight, 16, 2 * PAIRS, 0, 128},
+    {"sub, one at least 8 of an inverse of top", sub_eight_inverse, 16, 2 * PAIRS, 0, 128},
     {"sub, wide tree of 15 ands", sub_wide_and, 16, 2 * PAIRS, 128, 128},
     {"sub, deep tree of 15 ands", sub_deep_and, 16, 2 * PAIRS, 128, 128},
     {"chain of 4, nothing found", chain_of_four, 16, 2 * PAIRS, 0, 0},

@@ -1,5 +1,5 @@
 ghost use mathlib.Core.Path.{_≡_};
-ghost use Prim.Native.Nat.{ℕ, _≤_};
+ghost use Prim.Native.Nat.{_≤_};
 ghost use Rattle.logic.specs.Number.{Number};
 ghost use Rattle.row.specs.own.Row.{RowHas};
 ghost use Rattle.row.specs.own.Pick.{Marks};
@@ -8,8 +8,8 @@ ghost use Rattle.store.specs.Layout.{ClosedStore, Holds};
 ghost use Rattle.store.specs.own.Laid.{Laid};
 ghost use Rattle.rule.specs.Meaning.{Articles, Linked};
 ghost use Rattle.links.specs.own.Reach.{Reached};
-ghost use Rattle.expression.specs.own.Many.{Leaders};
 ghost use Rattle.expression.specs.own.Row.{Found, turned as turnedOf};
+use row::ROOM;
 use row::Row;
 use rule::RoleUse;
 use store::Counts;
@@ -17,30 +17,20 @@ use store::Item;
 use store::Layout;
 use store::Role;
 
-// Of each article of the row p one item.
-fn leaders(words: &[u64], at: Layout, counts: Counts, p: Row) -> Row
-    requires { ⌜ Laid at (now words) × ClosedStore (at .width) counts (now words) × ((x : ℕ) → RowHas p x → DeclaredItem counts x) ⌝ }
-    ensures { λ r. ⌜ Leaders (Holds (at .width) counts (now (words .entry))) counts (RowHas p) (counts .items) (RowHas r) ⌝ }
-{
-    let mut left = p;
-    let mut b = row::pick::next(&left, 0, counts.items);
-    while b < counts.items {
-        let same = store::look::same_row(words, at, counts, Item(b));
-        left = row::pick::without(&left, &same);
-        row::pick::mark(&mut left, b, true);
-        b = row::pick::next(&left, b + 1, counts.items);
-    }
-    left
-}
-
-// Of each article of the row p that the role, or its inverse, links an item of the row q to, one item.
-fn apart(words: &[u64], at: Layout, counts: Counts, u: RoleUse, p: &Row, q: &Row) -> Row
+// The items of the row p that the role, or its inverse, links an item of the row q to.
+fn reached(words: &[u64], at: Layout, counts: Counts, u: RoleUse, p: &Row, q: &Row) -> Row
     requires { ⌜ Laid at (now words) × ClosedStore (at .width) counts (now words) ⌝ }
-    ensures { λ r. ⌜ Leaders (Holds (at .width) counts (now (words .entry))) counts (λ b. Reached (Linked (Holds (at .width) counts (now (words .entry))) u) (RowHas (now (q .entry))) b × RowHas (now (p .entry)) b) (counts .items) (RowHas r) ⌝ }
+    ensures { λ r. ⌜ Marks (counts .items) r (λ b. Reached (Linked (Holds (at .width) counts (now (words .entry))) u) (RowHas (now (q .entry))) b × RowHas (now (p .entry)) b) ⌝ }
 {
     let all = links::reach::step_row(words, at, counts, u, q);
-    let both = row::pick::meet(&all, p);
-    leaders(words, at, counts, both)
+    row::pick::meet(&all, p)
+}
+
+// How many numbers the row has.
+fn size(p: &Row) -> usize
+    ensures { λ n. ⌜ Number (RowHas (now (p .entry))) n ⌝ }
+{
+    row::pick::common(p, 0, ROOM, p)
 }
 
 // How many items of the row p the role, or its inverse, links x to. A role that is not declared links nothing.
@@ -65,10 +55,10 @@ fn several(words: &[u64], at: Layout, counts: Counts, k: usize, u: RoleUse, p: &
     requires { ⌜ Laid at (now words) × ClosedStore (at .width) counts (now words) × (1 ≤ k) × Marks (counts .items) (now q) (Reached (Linked (Holds (at .width) counts (now words)) (turnedOf u)) (RowHas (now p))) ⌝ }
     ensures { λ r. ⌜ Marks (counts .items) r (λ x. Articles (Holds (at .width) counts (now (words .entry))) counts k (Found (Holds (at .width) counts (now (words .entry))) u (RowHas (now (p .entry))) x)) ⌝ }
 {
-    let lead = apart(words, at, counts, u, p, q);
-    let all = lead;
+    let mut lead = reached(words, at, counts, u, p, q);
+    crate::lead::keep_leaders(words, at, counts, &mut lead);
     let mut r = row::pick::empty();
-    if row::pick::common(&all, 0, at.width, &lead) < k {
+    if size(&lead) < k {
         return r;
     }
     let mut x = 0;

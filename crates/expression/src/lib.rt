@@ -2,4 +2,5 @@
 mod children;
 mod count;
 pub mod holding;
+mod lead;
 mod tally;

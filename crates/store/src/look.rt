@@ -9,7 +9,7 @@ ghost use Rattle.store.specs.Cell.{cellOf, DeclaredConcept, DeclaredItem
 ghost use Rattle.store.specs.Cell.Cell.{Same, Under, RoleUnder, In, Link};
 ghost use Rattle.store.specs.Layout.{ClosedStore, Holds, itemLimit, linkAt, roleLimit};
 ghost use Rattle.store.specs.own.Laid.{Laid, widest};
-ghost use Rattle.store.specs.own.Look.{LinksJoined, LinksMeet};
+ghost use Rattle.store.specs.own.Look.{LinksJoined, LinksMeet, LinkWord, SameDropped};
 use crate::Concept;
 use crate::Counts;
 use crate::Item;
@@ -105,6 +105,15 @@ pub fn same_row(words: &[u64], at: Layout, counts: Counts, b: Item) -> Row
     row::copy::row_of(words, b.0 * width, width)
 }
 
+// The row t loses the items that are the same article as b.
+pub fn drop_same(words: &[u64], at: Layout, counts: Counts, b: Item, t: &mut Row)
+    requires { ⌜ Laid at (now words) × ClosedStore (at .width) counts (now words) × DeclaredItem counts (b .0) × (length (now t) ≡ room) ⌝ }
+    ensures { λ _. ⌜ (length (now (t .exit)) ≡ room) × SameDropped (Holds (at .width) counts (now (words .entry))) (b .0) (now (t .entry)) (now (t .exit)) ⌝ }
+{
+    let width = at.width;
+    row::copy::take_off(t, words, b.0 * width, width);
+}
+
 // Where the row of the items that the role r links a to begins.
 fn link_row(at: Layout, r: Role, a: Item) -> usize
     requires { ⌜ (at .link ≡ linkAt (at .width)) × (at .width ≤ widest) × (r .0 < roleLimit) × (a .0 < itemLimit (at .width)) ⌝ }
@@ -149,6 +158,15 @@ pub fn add_links(words: &[u64], at: Layout, counts: Counts, r: Role, a: Item, t:
 {
     let from = link_row(at, r, a);
     row::copy::take_on(t, words, from, at.width);
+}
+
+// Word h of the row of the items that the role r links a to.
+pub fn link_word(words: &[u64], at: Layout, counts: Counts, r: Role, a: Item, h: usize) -> u64
+    requires { ⌜ Laid at (now words) × ClosedStore (at .width) counts (now words) × DeclaredRole counts (r .0) × DeclaredItem counts (a .0) × (h < at .width) ⌝ }
+    ensures { λ w. ⌜ LinkWord (Holds (at .width) counts (now (words .entry))) (r .0) (a .0) h w ⌝ }
+{
+    let from = link_row(at, r, a);
+    words[from + h]
 }
 
 // Whether the role r links a to an item of the row p.

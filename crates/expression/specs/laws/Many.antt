@@ -1,40 +1,44 @@
--- Laws of the items that a role links to so many articles, found by whole rows, and by one item of each article. Assumes nothing.
-use mathlib.Core.Path.{_≡_, refl, sym, _∙_, subst}
-use mathlib.Core.Logic.{⊎-elim}
+-- Laws of the items that a role links to so many articles, found by whole rows, and by the item with the lowest number among those found of an article. Assumes nothing.
+use mathlib.Core.Path.{_≡_, refl, sym, subst}
+use mathlib.Core.Logic.{_⊎_, inl, inr, ⊎-elim, Dec·and}
 use mathlib.Core.Bool.{Bool, true, false, not}
 use mathlib.Core.List.{List, [], _∷_}
-use Prim.Native.Nat.{ℕ, zero, suc, _+_, _*_, _≤_, _<_}
+use Prim.Native.Nat.{ℕ, zero, suc, _+_, _*_, _/_, _%_, _≤_, _<_}
 use native.Mathlib.Omega.{arith}
 use native.Mathlib.Decide.{decLt, ℕ-discrete}
-use lib.ListN.{length}
+use lib.ListN.{length, getD}
+use Rattle.logic.specs.Lowest.{Lowest}
 use Rattle.logic.specs.Number.{Distinct, Number, One}
 use Rattle.logic.specs.Number.One.{first, later}
 use Rattle.logic.specs.Number.Distinct.{none as no-other, more as one-more}
 use Rattle.logic.specs.own.Decides.{Decides}
 use Rattle.logic.specs.laws.Decides.{decides-iff}
+use Rattle.logic.specs.laws.Lowest.{lowest-of}
 use Rattle.logic.specs.laws.Number.{number-iff, number-none, one-cases, one-none}
 use Rattle.row.specs.own.Row.{RowHas}
-use Rattle.row.specs.own.Pick.{AllBelow, Empty, InBoth, Marked, Marks, Without}
-use Rattle.row.specs.laws.Bit.{at-place}
+use Rattle.row.specs.own.Pick.{AllBelow, Empty, InBoth, Marked, Marks, room}
+use Rattle.row.specs.laws.Bit.{at-place, has?}
+use Rattle.row.specs.laws.Pick.{row-room}
 use Rattle.row.specs.laws.Marks.{marks-ever, marks-iff, marks-never}
 use Rattle.store.specs.declared.Counts.{Counts}
 use Rattle.store.specs.Cell.{Cell, DeclaredItem, Obeys}
 use Rattle.store.specs.Cell.Cell.{Link, Same}
 use Rattle.store.specs.Layout.{ClosedStore, Holds}
-use Rattle.store.specs.own.Laid.{widest}
+use Rattle.store.specs.own.Look.{SameDropped}
 use Rattle.store.specs.laws.Cells.{holds?}
 use Rattle.rule.specs.declared.RoleUse.{RoleUse}
 use Rattle.rule.specs.Meaning.{Different, LinkedWay, Linked, Articles}
 use Rattle.rule.specs.Meaning.Different.{none, more}
-use Rattle.rule.specs.laws.Articles.{Covered, cover-le, fewer-articles}
+use Rattle.rule.specs.laws.Articles.{Covered, articles-iff, cover-le, fewer-articles}
+use Rattle.rule.specs.laws.Told.{linked?}
 use Rattle.links.specs.own.Reach.{Reached}
-use Rattle.expression.specs.own.Many.{Leaders}
+use Rattle.expression.specs.own.Many.{Kept, Leads}
 use Rattle.expression.specs.own.Row.{Found, turned}
 
 -- ---- one article: by the turned role
 
 -- where there is an article there is an item
-pub some-item : {C : Cell → Type 0} {n : Counts} {j : ℕ} {P : ℕ → Type 0} → Articles C n (suc j) P → (b : ℕ) × DeclaredItem n b × P b
+some-item : {C : Cell → Type 0} {n : Counts} {j : ℕ} {P : ℕ → Type 0} → Articles C n (suc j) P → (b : ℕ) × DeclaredItem n b × P b
 some-item {C} {n} {j} {P} a = go (a .items) (a .count) (a .each)
   where
     go : (xs : List ℕ) → length xs ≡ suc j → ((b : ℕ) → One b xs → DeclaredItem n b × P b) → (b : ℕ) × DeclaredItem n b × P b
@@ -42,7 +46,7 @@ some-item {C} {n} {j} {P} a = go (a .items) (a .count) (a .each)
     go (x ∷ xs) e f = let h = f x first in (x, h .0, h .1)
 
 -- and an item is an article
-pub one-article : {C : Cell → Type 0} {n : Counts} {P : ℕ → Type 0} (b : ℕ) → DeclaredItem n b → P b → Articles C n 1 P
+one-article : {C : Cell → Type 0} {n : Counts} {P : ℕ → Type 0} (b : ℕ) → DeclaredItem n b → P b → Articles C n 1 P
 one-article {n = n} {P = P} b l h = record {
   items = b ∷ [];
   count = refl;
@@ -88,50 +92,96 @@ turned-marks {n} {r} {P = P} C u e m = subst (λ (w : RoleUse). Marks n r (Reach
 pub none-marks : {k : ℕ} {C : Cell → Type 0} {n : Counts} {r : List ℕ} {P : ℕ → ℕ → Type 0} → k ≡ 0 → AllBelow (n .items) r → Marks (n .items) r (λ x. Articles C n k (P x))
 none-marks e a = rw e (marks-ever a (λ x l. record { items = []; count = refl; each = λ b q. absurd (one-none q); different = none }))
 
--- ---- several articles: of each one item
+-- ---- several articles: of the items found of each, the one with the lowest number
 
--- before the first
-pub leaders-none : {C : Cell → Type 0} {n : Counts} {P : ℕ → Type 0} → Obeys n C → ((x : ℕ) → P x → DeclaredItem n x) → Leaders C n P 0 P
-leaders-none o f = record { part = λ b h. (f b h, h); apart = λ a b l. absurd (omega arith); whole = λ x l h. (x, h, o .same-refl l) }
+-- before the first item all are kept
+pub kept-none : {C : Cell → Type 0} {n : ℕ} (p : List ℕ) → ((x : ℕ) → RowHas p x → x < n) → Marks n p (Kept C (RowHas p) 0)
+kept-none p f = record { sound = λ x h. (f x h, record { has = h; first = λ c l. absurd (omega arith) }); whole = λ x l k. k .has }
 
--- none before j
-pub leaders-skip : {C : Cell → Type 0} {n : Counts} {P L : ℕ → Type 0} {i j : ℕ} → Leaders C n P i L → ((x : ℕ) → i ≤ x → x < j → ¬ (L x)) → Leaders C n P j L
-leaders-skip {C} {n} {P} {L} {i} {j} d f = record { part = d .part; apart = λ a b l ha hb s. go a b l ha hb s (decLt a i); whole = d .whole }
-  where
-    go : (a b : ℕ) → a < j → L a → L b → C (Same a b) → Dec (a < i) → a ≡ b
-    go a b l ha hb s (yes h) = d .apart a b h ha hb s
-    go a b l ha hb s (no h) = absurd (f a (omega arith) l ha)
+-- after the last item those are kept that lead
+pub kept-done : {C : Cell → Type 0} {n : ℕ} {P : ℕ → Type 0} {r : List ℕ} {i : ℕ} → Marks n r (Kept C P i) → n ≤ i → Marks n r (Leads C P)
+kept-done m l = marks-iff (λ x lx k. record { has = k .has; first = λ c lc. k .first c (omega arith) lc }) (λ x lx d. record { has = d .has; first = λ c lc. d .first c }) m
 
--- after the last
-pub leaders-done : {C : Cell → Type 0} {n : Counts} {P L : ℕ → Type 0} {i j : ℕ} → Leaders C n P i L → j ≤ i → Leaders C n P j L
-leaders-done d l = record { part = d .part; apart = λ a b h. d .apart a b (omega arith); whole = d .whole }
-
--- what means the same has the same leaders
-pub leaders-iff : {C : Cell → Type 0} {n : Counts} {P Q L : ℕ → Type 0} {i : ℕ} → ((x : ℕ) → P x → Q x) → ((x : ℕ) → DeclaredItem n x → Q x → P x) → Leaders C n P i L → Leaders C n Q i L
-leaders-iff f g d = record { part = λ b h. let p = d .part b h in (p .0, f b (p .1)); apart = d .apart; whole = λ x l q. d .whole x l (g x l q) }
-
-module _ {W : ℕ} {n : Counts} {s : List ℕ} (k : ClosedStore W n s) (wide : W ≤ widest) where
-  -- one more: all that are the same go, but it
-  pub leaders-more : {b : ℕ} {P : ℕ → Type 0} {left same rest t : List ℕ} → Leaders (Holds W n s) n P b (RowHas left) → DeclaredItem n b → RowHas left b → Marks (n .items) same (λ x. Holds W n s (Same b x))
-      → Without left same rest → Marked true b rest t → Leaders (Holds W n s) n P (b + 1) (RowHas t)
-  leaders-more {b} {P} {left} {same} {rest} {t} d l here m w e = record { part = λ y h. d .part y (old y h); apart = λ a y la ha hy z. tell a y la ha hy z (ℕ-discrete a b); whole = λ x lx p. keep x (d .whole x lx p) }
+module _ {W : ℕ} {n : Counts} {s : List ℕ} (k : ClosedStore W n s) where
+  -- from i on no item below j is kept: nothing changes
+  pub kept-skip : {P : ℕ → Type 0} {r : List ℕ} {i j : ℕ} → Marks (n .items) r (Kept (Holds W n s) P i) → i ≤ j → ((x : ℕ) → i ≤ x → x < j → ¬ (RowHas r x)) → Marks (n .items) r (Kept (Holds W n s) P j)
+  kept-skip {P} {r} {i} {j} m l f = marks-iff (λ x lx h. record { has = h .has; first = λ c lc lx′ p z. tell x lx h c lc lx′ p z (decLt c i) }) (λ x lx h. record { has = h .has; first = λ c lc. h .first c (omega arith) }) m
     where
       C : Cell → Type 0
       C = Holds W n s
 
-      old : (y : ℕ) → RowHas t y → RowHas left y
-      old y h = ⊎-elim (w .left y) (λ q. subst (λ (z : ℕ). RowHas left z) (sym (q .1)) here) (e .only y h)
+      o : Obeys n C
+      o = k .closed .obeys
 
-      tell : (a y : ℕ) → a < b + 1 → RowHas t a → RowHas t y → C (Same a y) → Dec (a ≡ b) → a ≡ y
-      tell a y la ha hy z (yes q) = ⊎-elim (λ r. absurd (w .right y r (m .whole y (z .within .1) (subst (λ (v : ℕ). C (Same v y)) q z)))) (λ r. q ∙ sym (r .1)) (e .only y hy)
-      tell a y la ha hy z (no q) = d .apart a y (omega arith) (old a ha) (old y hy) z
+      tell : (x : ℕ) → DeclaredItem n x → Kept C P i x → (c : ℕ) → c < j → c < x → P c → C (Same x c) → Dec (c < i) → ⊥
+      tell x lx h c lc lx′ p z (yes d) = h .first c d lx′ p z
+      tell x lx h c lc lx′ p z (no d) = f c (omega arith) lc (m .whole c (omega arith) (record { has = p; first = λ e le lc′ q w. h .first e le (omega arith) q (o .same-trans z w) }))
 
-      keep : (x : ℕ) → (c : ℕ) × RowHas left c × C (Same c x) → (c : ℕ) × RowHas t c × C (Same c x)
-      keep x c = go (holds? W n s (Same b (c .0)))
+  -- b is kept, and all that are the same go
+  pub kept-more : {P : ℕ → Type 0} {b : ℕ} {r rest t : List ℕ} → Marks (n .items) r (Kept (Holds W n s) P b) → RowHas r b → SameDropped (Holds W n s) b r rest → Marked true b rest t → Marks (n .items) t (Kept (Holds W n s) P (b + 1))
+  kept-more {P} {b} {r} {rest} {t} m here d e = record { sound = λ x h. sound x (e .only x h); whole = λ x lx h. whole x lx h (ℕ-discrete x b) }
+    where
+      C : Cell → Type 0
+      C = Holds W n s
+
+      o : Obeys n C
+      o = k .closed .obeys
+
+      first-of : (x : ℕ) → Kept C P b x → (b < x → ¬ (C (Same b x))) → Kept C P (b + 1) x
+      first-of x h f = record { has = h .has; first = λ c lc lx p z. tell c lc lx p z (ℕ-discrete c b) }
         where
-          go : Dec (C (Same b (c .0))) → (v : ℕ) × RowHas t v × C (Same v x)
-          go (yes z) = (b, e .gets refl, k .closed .obeys .same-trans z (c .2))
-          go (no z) = (c .0, e .keeps (c .0) (w .has (c .0) (omega (arith, k .fits .items, c .2 .within .0)) (c .1) (λ h. z (m .sound (c .0) h .1))), c .2)
+          tell : (c : ℕ) → c < b + 1 → c < x → P c → C (Same x c) → Dec (c ≡ b) → ⊥
+          tell c lc lx p z (yes q) = f (omega arith) (o .same-sym (subst (λ (v : ℕ). C (Same x v)) q z))
+          tell c lc lx p z (no q) = h .first c (omega arith) lx p z
+
+      sound : (x : ℕ) → RowHas rest x ⊎ ((true ≡ true) × (x ≡ b)) → (x < n .items) × Kept C P (b + 1) x
+      sound x (inl h) = let y = m .sound x (d .left x h) in (y .0, first-of x (y .1) (λ l. d .right x h))
+      sound x (inr h) = let y = m .sound x (subst (λ (v : ℕ). RowHas r v) (sym (h .1)) here) in (y .0, first-of x (y .1) (λ l. absurd (omega (arith, h .1))))
+
+      apart : (x : ℕ) → DeclaredItem n x → Kept C P (b + 1) x → ¬ (x ≡ b) → ¬ (C (Same b x))
+      apart x lx h f z = go (decLt x b)
+        where
+          go : Dec (x < b) → ⊥
+          go (yes l) = m .sound b here .1 .first x l l (h .has) z
+          go (no l) = h .first b (omega arith) (omega arith) (m .sound b here .1 .has) (o .same-sym z)
+
+      whole : (x : ℕ) → DeclaredItem n x → Kept C P (b + 1) x → Dec (x ≡ b) → RowHas t x
+      whole x lx h (yes q) = subst (λ (v : ℕ). RowHas t v) (sym q) (e .gets refl)
+      whole x lx h (no q) = e .keeps x (d .keeps x (m .whole x lx (record { has = h .has; first = λ c lc. h .first c (omega arith) })) (apart x lx h q))
+
+-- distinct items that are the same only as themselves
+different-of : {C : Cell → Type 0} {xs : List ℕ} → Distinct xs → ((a b : ℕ) → One a xs → One b xs → C (Same a b) → a ≡ b) → Different C xs
+different-of no-other f = none
+different-of (one-more {x = x} {xs = xs} n d) f = more (λ y q s. n (subst (λ (z : ℕ). One z xs) (sym (f x y first (later q) s)) q)) (different-of d (λ a b p q. f a b (later p) (later q)))
+
+module _ {C : Cell → Type 0} {n : Counts} (o : Obeys n C) {P : ℕ → Type 0} where
+  -- two that lead are the same only if they are one
+  leads-apart : (a b : ℕ) → Leads C P a → Leads C P b → C (Same a b) → a ≡ b
+  leads-apart a b x y s = go (decLt a b) (decLt b a)
+    where
+      go : Dec (a < b) → Dec (b < a) → a ≡ b
+      go (yes l) d = absurd (y .first a l (x .has) (o .same-sym s))
+      go (no l) (yes h) = absurd (x .first b h (y .has) s)
+      go (no l) (no h) = omega arith
+
+  module _ (C? : (c : Cell) → Dec (C c)) (P? : (b : ℕ) → Dec (P b)) where
+    -- of each article one leads
+    leads-whole : (x : ℕ) → DeclaredItem n x → P x → (b : ℕ) × Leads C P b × C (Same b x)
+    leads-whole x l h = go (lowest-of (λ b. Dec·and (P? b) (C? (Same b x))) x (h, o .same-refl l))
+      where
+        go : (b : ℕ) × Lowest (λ c. P c × C (Same c x)) b → (b : ℕ) × Leads C P b × C (Same b x)
+        go b = let f = b .1 .applies in (b .0, record { has = f .0; first = λ c lc q s. b .1 .lowest c lc (q, o .same-trans (o .same-sym s) (f .1)) }, f .1)
+
+    -- so many articles as items that have no lower-numbered same item
+    module _ {m k : ℕ} (a : Number (Leads C P) m) where
+      leads-articles : ((b : ℕ) → P b → DeclaredItem n b) → k ≤ m → Articles C n k P
+      leads-articles inside h =
+          fewer-articles k (different-of (a .distinct) (λ b e ob oe. leads-apart b e (a .sound b ob) (a .sound e oe))) (omega (arith, a .count))
+          (λ b ob. let y = a .sound b ob .has in (inside b y, y))
+
+      articles-leads : Articles C n k P → k ≤ m
+      articles-leads f =
+          omega (arith, f .count, a .count, cover-le o (f .different) (λ y oy. let z = f .each y oy in let b = leads-whole y (z .0) (z .1) in (b .0, a .whole (b .0) (b .1), b .2)))
 
 -- ---- the articles that an item is linked to
 
@@ -140,24 +190,43 @@ way-same : {C : Cell → Type 0} {n : Counts} → Obeys n C → (v : Bool) (r x 
 way-same o false r x l s h = o .link-same (o .same-refl l) (o .same-sym s) h
 way-same o true r x l s h = o .link-same (o .same-sym s) (o .same-refl l) h
 
--- distinct items that are the same only as themselves
-different-of : {C : Cell → Type 0} {xs : List ℕ} → Distinct xs → ((a b : ℕ) → One a xs → One b xs → C (Same a b) → a ≡ b) → Different C xs
-different-of no-other f = none
-different-of (one-more {x = x} {xs = xs} n d) f = more (λ y q s. n (subst (λ (z : ℕ). One z xs) (sym (f x y first (later q) s)) q)) (different-of d (λ a b p q. f a b (later p) (later q)))
+-- an item leads among those that x is linked to if it leads among all
+leads-found : {C : Cell → Type 0} {P : ℕ → Type 0} (u : RoleUse) (x b : ℕ) → Linked C u x b → Leads C P b → Leads C (Found C u P x) b
+leads-found u x b h d = record { has = (h, d .has); first = λ c lc f. d .first c lc (f .1) }
 
--- as many articles as items that lead
-pub several-articles : {C : Cell → Type 0} {n : Counts} {P Q L : ℕ → Type 0} {m k : ℕ} {t : Bool} (u : RoleUse) (x : ℕ) → Obeys n C → Leaders C n (λ b. Reached (Linked C u) Q b × P b) (n .items) L → DeclaredItem n x → Q x
-    → Number (λ y. Linked C u x y × L y) m → Decides t (k ≤ m) → Decides t (Articles C n k (Found C u P x))
-several-articles {C} {n} {P} {Q} {L} {m} {k} u x o d l q a t = decides-iff there back t
+-- and only then, as what is the same is linked the same
+found-leads : {C : Cell → Type 0} {n : Counts} {P : ℕ → Type 0} → Obeys n C → (u : RoleUse) (x b : ℕ) → DeclaredItem n x → Leads C (Found C u P x) b → Linked C u x b × Leads C P b
+found-leads o u x b l d = (d .has .0, record { has = d .has .1; first = λ c lc q s. d .first c lc (way-same o (u .inverse) (u .role .0) x l (o .same-sym s) (d .has .0), q) s })
+
+-- so many articles with the property P as items that lead among those of the row p, which has what x is linked to of them
+module _ {W m : ℕ} {n : Counts} {s lead : List ℕ} {P : ℕ → Type 0} (p : List ℕ) (u : RoleUse) (x : ℕ) (c : ClosedStore W n s) (d : Marks (n .items) lead (Leads (Holds W n s) (RowHas p))) (l : DeclaredItem n x)
+    (to : (b : ℕ) → RowHas p b → P b) (from : (b : ℕ) → Linked (Holds W n s) u x b → P b → RowHas p b) (a : Number (λ y. Linked (Holds W n s) u x y × RowHas lead y) m) where
+  inside : (y : ℕ) → Found (Holds W n s) u (RowHas p) x y → DeclaredItem n y
+  inside y h = way-declared W n s (u .inverse) (u .role .0) x y (h .0)
+
+  told? : (b : ℕ) → Dec (Found (Holds W n s) u (RowHas p) x b)
+  told? b = Dec·and (linked? (holds? W n s) u x b) (has? (getD p (b / 64) 0) (b % 64))
+
+  number : Number (Leads (Holds W n s) (Found (Holds W n s) u (RowHas p) x)) m
+  number = number-iff (λ y h. leads-found u x y (h .0) (d .sound y (h .1) .1)) (λ y h. let z = found-leads (c .closed .obeys) u x y l h in (z .0, d .whole y (inside y (h .has)) (z .1))) a
+
+  pub enough-articles : {k : ℕ} → k ≤ m → Articles (Holds W n s) n k (Found (Holds W n s) u P x)
+  enough-articles h = articles-iff (λ b lb f. (f .0, to b (f .1))) (leads-articles (c .closed .obeys) (holds? W n s) told? number inside h)
+
+  pub articles-enough : {k : ℕ} → Articles (Holds W n s) n k (Found (Holds W n s) u P x) → k ≤ m
+  articles-enough f = articles-leads (c .closed .obeys) (holds? W n s) told? number (articles-iff (λ b lb h. (h .0, from b (h .0) (h .1))) f)
+
+-- so many articles of the row p as items that lead among those that an item of the row q is linked to, where x is one of q
+pub several-articles : {W m k : ℕ} {n : Counts} {s lead : List ℕ} {t : Bool} (p q both : List ℕ) (u : RoleUse) (x : ℕ) → ClosedStore W n s
+    → Marks (n .items) both (λ b. Reached (Linked (Holds W n s) u) (RowHas q) b × RowHas p b) → Marks (n .items) lead (Leads (Holds W n s) (RowHas both)) → DeclaredItem n x → RowHas q x
+    → Number (λ y. Linked (Holds W n s) u x y × RowHas lead y) m → Decides t (k ≤ m) → Decides t (Articles (Holds W n s) n k (Found (Holds W n s) u (RowHas p) x))
+several-articles {W} {n = n} {s} p q both u x c f d l here a = decides-iff (enough-articles both u x c d l inside found a) (articles-enough both u x c d l inside found a)
   where
-    there : k ≤ m → Articles C n k (Found C u P x)
-    there h =
-        fewer-articles k (different-of (a .distinct) (λ b c ob oc. let y = a .sound b ob .1 in d .apart b c (d .part b y .0) y (a .sound c oc .1))) (omega (arith, a .count))
-        (λ b ob. let y = a .sound b ob in let z = d .part b (y .1) in (z .0, (y .0, z .1 .1)))
+    inside : (b : ℕ) → RowHas both b → RowHas p b
+    inside b h = f .sound b h .1 .1
 
-    back : Articles C n k (Found C u P x) → k ≤ m
-    back f =
-        omega (arith, f .count, a .count, cover-le o (f .different) (λ y oy. let z = f .each y oy in let b = d .whole y (z .0) (record { from = x; has = q; link = z .1 .0 }, z .1 .1) in (b .0, a .whole (b .0) (way-same o (u .inverse) (u .role .0) x l (b .2) (z .1 .0), b .1), b .2)))
+    found : (b : ℕ) → Linked (Holds W n s) u x b → RowHas p b → RowHas both b
+    found b z h = f .whole b (way-declared W n s (u .inverse) (u .role .0) x b z) (record { from = x; has = here; link = z }, h)
 
 -- an item of several articles has one
 pub several-some : {n : Counts} {W : ℕ} {s q : List ℕ} {P : ℕ → Type 0} (u : RoleUse) (k x : ℕ) → 1 ≤ k → Marks (n .items) q (Reached (Linked (Holds W n s) (turned u)) P) → DeclaredItem n x
@@ -166,10 +235,10 @@ several-some u zero x l m lx h a = absurd (omega arith)
 several-some u (suc k) x l m lx h a = let b = some-item a in h (m .whole x lx (record { from = b .0; has = b .2 .1; link = turned-way _ (u .inverse) (u .role .0) x (b .0) (b .2 .0) }))
 
 -- fewer leaders than articles asked for
-pub several-none : {W m k : ℕ} {n : Counts} {s r : List ℕ} (p q l : List ℕ) (u : RoleUse) → ClosedStore W n s → Marks (n .items) q (Reached (Linked (Holds W n s) (turned u)) (RowHas p))
-    → Leaders (Holds W n s) n (λ b. Reached (Linked (Holds W n s) u) (RowHas q) b × RowHas p b) (n .items) (RowHas l) → Number (InBoth l 0 W l) m → m < k → Empty r
+pub several-none : {W m k : ℕ} {n : Counts} {s r lead : List ℕ} (p q both : List ℕ) (u : RoleUse) → ClosedStore W n s → Marks (n .items) q (Reached (Linked (Holds W n s) (turned u)) (RowHas p))
+    → Marks (n .items) both (λ b. Reached (Linked (Holds W n s) u) (RowHas q) b × RowHas p b) → Marks (n .items) lead (Leads (Holds W n s) (RowHas both)) → Number (RowHas lead) m → m < k → Empty r
     → Marks (n .items) r (λ x. Articles (Holds W n s) n k (Found (Holds W n s) u (RowHas p) x))
-several-none {W} {n = n} {s} p q l u c m d a few e = marks-never e (λ x lx f. omega (arith, f .count, a .count, cover-le (c .closed .obeys) (f .different) (λ y oy. covered x lx y (f .each y oy))))
+several-none {W} {n = n} {s} {lead = lead} p q both u c m t d a few e = marks-never e (λ x lx f. omega (arith, f .count, a .count, cover-le (c .closed .obeys) (f .different) (λ y oy. covered x lx y (f .each y oy))))
   where
     C : Cell → Type 0
     C = Holds W n s
@@ -177,9 +246,12 @@ several-none {W} {n = n} {s} p q l u c m d a few e = marks-never e (λ x lx f. o
     covered : (x : ℕ) → DeclaredItem n x → (y : ℕ) → DeclaredItem n y × Found C u (RowHas p) x y → Covered C (a .all) y
     covered x lx y z =
         let here = m .whole x lx (record { from = y; has = z .1 .1; link = turned-way C (u .inverse) (u .role .0) x y (z .1 .0) }) in
-        let b = d .whole y (z .0) (record { from = x; has = here; link = z .1 .0 }, z .1 .1) in
-        let inside = d .part (b .0) (b .1) .0 in
-        (b .0, a .whole (b .0) (record { inside = omega (arith, c .fits .items, inside); here = at-place l (omega arith) (b .1); there = b .1 }), b .2)
+        let b = leads-whole (c .closed .obeys) (holds? W n s) (λ v. has? (getD both (v / 64) 0) (v % 64)) y (z .0) (t .whole y (z .0) (record { from = x; has = here; link = z .1 .0 }, z .1 .1)) in
+        (b .0, a .whole (b .0) (d .whole (b .0) (b .2 .within .0) (b .1)), b .2)
+
+-- how many numbers a row has in common with itself
+pub size-number : {m : ℕ} (p : List ℕ) → length p ≡ room → Number (InBoth p 0 room p) m → Number (RowHas p) m
+size-number p e a = number-iff (λ x b. b .there) (λ x h. record { inside = omega (arith, row-room p e x h); here = at-place p (omega arith) h; there = h }) a
 
 -- how many of the row p the inverse links x to, by the row of what links to x
 pub back-number : {W m : ℕ} {n : Counts} {s p r : List ℕ} (u : RoleUse) (x : ℕ) → n .items ≤ 64 * W → u .inverse ≡ true → Marks (n .items) r (λ y. Holds W n s (Link (u .role .0) y x)) → Number (InBoth r 0 W p) m

@@ -1,11 +1,10 @@
 -- The leader of an item: the lowest-numbered item that is the same. It stands for the article. Assumes nothing.
 use mathlib.Core.Path.{_≡_, refl, sym, subst}
 use mathlib.Core.Logic.{_⊎_, inl, inr, ⊎-elim}
-use Prim.Native.Nat.{ℕ, zero, suc, _<_}
-use native.Mathlib.Omega.{arith}
+use Prim.Native.Nat.{ℕ}
 use native.Mathlib.Decide.{ℕ-discrete}
 use Rattle.logic.specs.Lowest.{Lowest}
-use Rattle.logic.specs.laws.Lowest.{lowest-unique}
+use Rattle.logic.specs.laws.Lowest.{lowest-of, lowest-unique}
 use Rattle.store.specs.declared.Counts.{Counts}
 use Rattle.store.specs.Cell.{Cell, Obeys, DeclaredItem}
 use Rattle.store.specs.Cell.Cell.{Same}
@@ -15,26 +14,6 @@ pub either? : {P Q : Type 0} → Dec P → Dec Q → Dec (P ⊎ Q)
 either? (yes p) q = yes (inl p)
 either? (no p) (yes q) = yes (inr q)
 either? (no p) (no q) = no (⊎-elim p q)
-
--- the lowest number below k that applies, or none
-search-below : {F : ℕ → Type 0} → ((j : ℕ) → Dec (F j)) → (k : ℕ) → ((m : ℕ) × Lowest F m) ⊎ ((j : ℕ) → j < k → ¬ (F j))
-search-below d zero = inr (λ j l. absurd (omega arith))
-search-below {F} d (suc k) = ⊎-elim inl (λ none. at none (d k)) (search-below d k)
-  where
-    none-yet : ((j : ℕ) → j < k → ¬ (F j)) → ¬ (F k) → (j : ℕ) → j < suc k → ¬ (F j)
-    none-yet f g j l x = tell (ℕ-discrete j k)
-      where
-        tell : Dec (j ≡ k) → ⊥
-        tell (yes e) = g (subst F e x)
-        tell (no e) = f j (omega arith) x
-
-    at : ((j : ℕ) → j < k → ¬ (F j)) → Dec (F k) → ((m : ℕ) × Lowest F m) ⊎ ((j : ℕ) → j < suc k → ¬ (F j))
-    at none (yes x) = inl (k, record { applies = x; lowest = none })
-    at none (no x) = inr (none-yet none x)
-
--- where a number applies there is a lowest one
-lowest-of : {F : ℕ → Type 0} → ((j : ℕ) → Dec (F j)) → (k : ℕ) → F k → (m : ℕ) × Lowest F m
-lowest-of d k x = ⊎-elim (λ r. r) (λ none. absurd (none k (omega arith) x)) (search-below d (suc k))
 
 -- b is the same as a, or is a itself
 abbrev Alike : (Cell → Type 0) → ℕ → ℕ → Type 0

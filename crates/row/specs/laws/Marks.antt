@@ -50,6 +50,17 @@ marks-ever a f = record { sound = λ x h. let l = a .only x h in (l, f x l); who
 pub marks-rest : {n : ℕ} {all p r : List ℕ} → n ≤ 64 * room → AllBelow n all → Without all p r → Marks n r (λ x. ¬ (RowHas p x))
 marks-rest small a w = record { sound = λ x h. (a .only x (w .left x h), w .right x h); whole = λ x l p. w .has x (omega arith) (a .has x l) p }
 
+-- what a row marks and another row has
+pub marks-also : {n : ℕ} {all p r : List ℕ} {P : ℕ → Type 0} → n ≤ 64 * room → Marks n all P → Met all p r → Marks n r (λ x. P x × RowHas p x)
+marks-also small m d = record {
+  sound = λ x h. let a = m .sound x (d .left x h) in (a .0, (a .1, d .right x h));
+  whole = λ x l h. d .has x (omega arith) (m .whole x l (h .0)) (h .1);
+}
+
+-- the numbers below n that a row has
+pub marks-below : {n : ℕ} {all p r : List ℕ} → n ≤ 64 * room → AllBelow n all → Met all p r → Marks n r (RowHas p)
+marks-below small a m = record { sound = λ x h. (a .only x (m .left x h), m .right x h); whole = λ x l h. m .has x (omega arith) (a .has x l) h }
+
 -- the numbers below n that two rows have
 pub marks-shared : {n : ℕ} {all p q both r : List ℕ} → n ≤ 64 * room → AllBelow n all → Met p q both → Met all both r → Marks n r (λ x. RowHas p x × RowHas q x)
 marks-shared small a m t = record {

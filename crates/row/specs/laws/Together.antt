@@ -1,20 +1,21 @@
--- Laws of a row that takes on a row of the list of words. Assumes nothing.
+-- Laws of a row that takes on, or loses, a row of the list of words. Assumes nothing.
 use mathlib.Core.Path.{_≡_, refl, sym, _∙_}
 use mathlib.Core.Logic.{_⊎_, inl, inr, ⊎-elim}
 use mathlib.Core.List.{List}
 use Prim.Native.Nat.{ℕ, _+_, _*_, _/_, _%_, _≤_, _<_}
 use native.Mathlib.Omega.{arith}
 use native.Mathlib.Decide.{ℕ-discrete, decLt}
-use lib.Bits.{bitOr}
+use lib.Bits.{bitOr, bitAnd, bitXor}
 use lib.ListN.{getD, set, length-set}
 use lib.Seq.{getD-set-same, getD-set-other}
 use Rattle.row.specs.Bit.{Has}
 use Rattle.row.specs.own.Row.{RowHas}
 use Rattle.row.specs.own.Pick.{room, Together}
-use Rattle.row.specs.own.Change.{TakenOn, takeOn}
+use Rattle.row.specs.own.Change.{TakenOff, TakenOn, takeOff, takeOn}
 use Rattle.row.specs.laws.Bit.{moved, zero-none, has-or, or-left, or-right}
 use Rattle.row.specs.laws.Rows.{zero-word, zeros}
 use Rattle.row.specs.laws.Mapped.{mapped-part}
+use Rattle.row.specs.laws.Pick.{has-less, less-has}
 
 -- before the first word
 pub together-none : (s r : List ℕ) (from : ℕ) → Together s from 0 r (zeros room)
@@ -74,3 +75,29 @@ module _ {s p t : List ℕ} {from width : ℕ} (d : TakenOn s from width p t) wh
   pub taken-gets : (x : ℕ) → x < 64 * width → Has (getD s (from + x / 64) 0) (x % 64) → RowHas t x
   unfolding takeOn
   taken-gets x l h = moved (sym (d .mapped .inside (x / 64) (omega arith) (omega arith))) (or-right (getD p (x / 64) 0) _ _ h)
+
+-- ---- a row that loses another in place
+
+-- the word that loses another
+pub take-off : (s : List ℕ) (from i w : ℕ) → bitXor w (bitAnd w (getD s (from + i) 0)) ≡ takeOff s from i w
+unfolding takeOff
+take-off s from i w = refl
+
+module _ {s p t : List ℕ} {from width : ℕ} (d : TakenOff s from width p t) where
+  -- its bits
+  pub lost-has : (x : ℕ) → RowHas t x → RowHas p x × (x < 64 * width → ¬ (Has (getD s (from + x / 64) 0) (x % 64)))
+  unfolding takeOff
+  lost-has x h = go (decLt (x / 64) width)
+    where
+      go : Dec (x / 64 < width) → RowHas p x × (x < 64 * width → ¬ (Has (getD s (from + x / 64) 0) (x % 64)))
+      go (yes l) = let z = has-less (getD p (x / 64) 0) (getD s (from + x / 64) 0) (x % 64) (moved (d .mapped .inside (x / 64) (omega arith) l) h) in (z .0, λ lx. z .1)
+      go (no l) = (moved (d .mapped .above (x / 64) (omega arith)) h, λ lx. absurd (omega arith))
+
+  -- what it keeps
+  pub lost-keeps : (x : ℕ) → RowHas p x → (x < 64 * width → ¬ (Has (getD s (from + x / 64) 0) (x % 64))) → RowHas t x
+  unfolding takeOff
+  lost-keeps x h f = go (decLt (x / 64) width)
+    where
+      go : Dec (x / 64 < width) → RowHas t x
+      go (yes l) = moved (sym (d .mapped .inside (x / 64) (omega arith) l)) (less-has (getD p (x / 64) 0) (getD s (from + x / 64) 0) (x % 64) h (f (omega arith)))
+      go (no l) = moved (sym (d .mapped .above (x / 64) (omega arith))) h

@@ -1,5 +1,5 @@
 -- Laws of looking cells up: a cell's bit tells whether it holds, and a row's bits which of its cells do. Assumes nothing.
-use mathlib.Core.Path.{_≡_, sym, subst}
+use mathlib.Core.Path.{_≡_, sym, ap, _∙_, subst}
 use mathlib.Core.Logic.{inl, inr, ⊎-elim}
 use mathlib.Core.Bool.{Bool}
 use mathlib.Core.List.{List}
@@ -14,26 +14,30 @@ use Rattle.logic.specs.laws.Decides.{decides-iff}
 use Rattle.row.specs.Bit.{Has}
 use Rattle.row.specs.own.Bit.{hasb}
 use Rattle.row.specs.own.Row.{Copied, RowHas}
-use Rattle.row.specs.own.Change.{TakenOn}
+use Rattle.row.specs.own.Change.{TakenOff, TakenOn}
 use Rattle.row.specs.own.Pick.{InBoth, Marks, Shared, Together, room}
 use Rattle.row.specs.laws.Rows.{row-within, has-copied, copied-has, copied-within}
 use Rattle.row.specs.laws.Pick.{decides-has}
-use Rattle.row.specs.laws.Bit.{at-place}
+use Rattle.row.specs.laws.Bit.{at-place, moved}
 use Rattle.row.specs.laws.Marks.{marks-iff}
-use Rattle.row.specs.laws.Together.{has-together, taken-gets, taken-has, taken-keeps, together-has}
+use Rattle.row.specs.laws.Together.{has-together, lost-has, lost-keeps, taken-gets, taken-has, taken-keeps, together-has}
 use Rattle.store.specs.declared.Counts.{Counts}
 use Rattle.store.specs.Cell.{Cell, Within, DeclaredItem}
 use Rattle.store.specs.Cell.Cell.{Same, In, Link}
 use Rattle.store.specs.Layout.{ClosedStore, Holds, wordOf, bitOf, inAt, itemLimit, linkAt, roleLimit}
 use Rattle.store.specs.own.Laid.{widest}
-use Rattle.store.specs.own.Look.{LinksJoined, LinksMeet}
+use Rattle.store.specs.own.Look.{LinksJoined, LinksMeet, LinkWord, SameDropped}
 use Rattle.store.specs.laws.Parts.{item-lt, link-holds, link-place, linkIx, store-parts}
+
+-- a bit of p's row of "same" tells that an item is the same as p
+same-told : {W : ℕ} {n : Counts} {s : List ℕ} → ClosedStore W n s → (p : ℕ) → DeclaredItem n p → (x : ℕ) → x < itemLimit W → Has (getD s (p * W + x / 64) 0) (x % 64) → Holds W n s (Same p x)
+same-told {W} {n} {s} ks p hp x hx h =
+    subst (λ (y : ℕ). Holds W n s (Same p y)) (div-add-mod' x 64)
+    (store-parts ks .same p (x / 64) (x % 64) (omega (arith, ks .fits .items)) (omega arith) (omega arith) h)
 
 -- the items of p's row of "same", copied out, are those that are the same as p
 pub row-same : {W : ℕ} {n : Counts} {s m : List ℕ} → ClosedStore W n s → (p : ℕ) → DeclaredItem n p → Copied s (p * W) W room m → (x : ℕ) → x < itemLimit W → RowHas m x → Holds W n s (Same p x)
-row-same {W} {n} {s} ks p hp c x hx h =
-    subst (λ (y : ℕ). Holds W n s (Same p y)) (div-add-mod' x 64)
-    (store-parts ks .same p (x / 64) (x % 64) (omega (arith, ks .fits .items)) (omega arith) (omega arith) (copied-has c x hx h))
+row-same ks p hp c x hx h = same-told ks p hp x hx (copied-has c x hx h)
 
 pub same-row : {W : ℕ} {n : Counts} {s m : List ℕ} → ClosedStore W n s → (p : ℕ) → Copied s (p * W) W room m → (x : ℕ) → Holds W n s (Same p x) → RowHas m x
 same-row {W} {n} {s} ks p c x h = has-copied c x (omega (arith, ks .fits .items, h .within)) (h .bit)
@@ -54,6 +58,14 @@ link-part-small W h = let l : itemLimit W ≤ itemLimit widest = omega arith in 
 pub same-marks : {W : ℕ} {n : Counts} {s r : List ℕ} (b : ℕ) → ClosedStore W n s → DeclaredItem n b → Copied s (b * W) W room r → Marks (n .items) r (λ x. Holds W n s (Same b x))
 same-marks b k l c = record { sound = λ x h. let y = row-same k b l c x (copied-within c x h) h in (y .within .1, y); whole = λ x lx h. same-row k b c x h }
 
+-- a row that loses the row of "same" at b loses the items that are the same as b
+pub same-dropped : {W : ℕ} {n : Counts} {s p t : List ℕ} (b : ℕ) → ClosedStore W n s → DeclaredItem n b → TakenOff s (b * W) W p t → SameDropped (Holds W n s) b p t
+same-dropped b k l d = record {
+  keeps = λ x h f. lost-keeps d x h (λ lx z. f (same-told k b l x lx z));
+  left = λ x h. lost-has d x h .0;
+  right = λ x h z. lost-has d x h .1 (item-lt (k .fits) (z .within .1)) (z .bit);
+}
+
 -- ---- the row of the items that a role links an item to
 
 module _ {W from : ℕ} {n : Counts} {s : List ℕ} (r a : ℕ) (k : ClosedStore W n s) (l : DeclaredItem n a) (e : from ≡ linkAt W + (r * itemLimit W + a) * W) where
@@ -65,6 +77,13 @@ module _ {W from : ℕ} {n : Counts} {s : List ℕ} (r a : ℕ) (k : ClosedStore
 
   told-link : (y : ℕ) → Holds W n s (Link r a y) → Has (getD s (from + y / 64) 0) (y % 64)
   told-link y h = at-place s (sym (place y)) (h .bit)
+
+  -- its word h
+  pub link-word : {h w : ℕ} → h < W → w ≡ getD s (from + h) 0 → LinkWord (Holds W n s) r a h w
+  link-word {h} {w} lh q = record {
+    sound = λ x e z. link-told x (omega arith) (moved (q ∙ ap (λ (i : ℕ). getD s (from + i) 0) (sym e)) z);
+    whole = λ x e z. moved (ap (λ (i : ℕ). getD s (from + i) 0) e ∙ sym q) (told-link x z);
+  }
 
   -- it and the row p together
   pub links-joined : {p t : List ℕ} → Together s from W p t → LinksJoined (Holds W n s) n r a p t

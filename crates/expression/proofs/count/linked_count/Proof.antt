@@ -1,7 +1,6 @@
 -- `expression::count::linked_count` meets its contract, by the side that it asks. Assumes nothing.
 use mathlib.Core.Path.{_≡_}
 use mathlib.Core.Bool.{false}
-use native.Mathlib.Omega.{arith}
 use borrow.Author.Needs.{needs}
 use Rattle.expression.specs.laws.Many.{back-number, number-undeclared}
 use Rattle.expression.proofs.count.linked_count.Statement.{statement}

@@ -24,23 +24,26 @@ Inv-loop words at counts k u p q lead r₀ x₀ r x =
 abbrev μ-loop : tie.MeasureT-loop
 μ-loop words at counts k u p q lead r₀ x₀ r x = counts .items - x
 
-apart-requires : tie.Need-apart-requires Inv-loop μ-loop
-apart-requires c κs = search needs
+reached-requires : tie.Need-reached-requires Inv-loop μ-loop
+reached-requires c κs = search needs
+
+keep-leaders-requires : tie.Need-keep-leaders-requires Inv-loop μ-loop
+keep-leaders-requires c κs = let start = c .before .before .before in (start .pre .0, start .pre .1, search needs, λ x h. c .before .reached .ensures .sound x h .0)
 
 empty-requires : tie.Need-empty-requires Inv-loop μ-loop
 empty-requires c κs = search needs
 
-slice-aggregate-common : tie.Need-slice-aggregate-common Inv-loop μ-loop
-slice-aggregate-common c = search needs
-
-common-requires : tie.Need-common-requires Inv-loop μ-loop
-common-requires c κs = search needs
+size-requires : tie.Need-size-requires Inv-loop μ-loop
+size-requires c κs = search needs
 
 returns : tie.Need-returns Inv-loop μ-loop
-returns c = several-none (c .before .before .before .before .before .before .before .args .p .now) (c .before .before .before .before .before .before .before .args .q .now) (c .before .before .before .before .before .apart .result) (c .before .before .before .before .before .before .before .args .u) (c .before .before .before .before .before .before .before .pre .1) (c .before .before .before .before .before .before .before .pre .3) (c .before .before .before .before .before .apart .ensures) (c .before .common .ensures) (c .if1 .taken) (c .before .before .before .before .empty .ensures)
+returns c =
+    let start = c .before .before .before .before .before .before .before .before in
+    let reached = c .before .before .before .before .before .before .reached in
+    several-none (start .args .p .now) (start .args .q .now) (reached .result) (start .args .u) (start .pre .1) (start .pre .3) (reached .ensures) (c .before .before .before .before .keep-leaders .ensures .1) (c .before .size .ensures) (c .if1 .taken) (c .before .before .before .empty .ensures)
 
 loop-holds : tie.Need-loop-holds Inv-loop μ-loop
-loop-holds c = (omega arith, c .before .before .before .before .empty .ensures .len, marks-none (c .before .before .before .before .empty .ensures))
+loop-holds c = (omega arith, c .before .before .before .empty .ensures .len, marks-none (c .before .before .before .empty .ensures))
 
 has-requires : tie.Need-has-requires Inv-loop μ-loop
 has-requires c κs = search needs
@@ -59,8 +62,15 @@ loop-less c = omega arith
 
 loop-again : tie.Need-loop-again Inv-loop μ-loop
 loop-again c =
-    let on = several-articles (c .before .before .before .before .before .before .before .before .before .before .before .before .before .before .before .before .args .u) (c .before .before .before .before .before .before .before .before .loop .x) (c .before .before .before .before .before .before .before .before .before .before .before .before .before .before .before .before .pre .1 .closed .obeys) (c .before .before .before .before .before .before .before .before .before .before .before .before .before .before .apart .ensures) (omega arith) (c .before .before .before .before .before .has .ensures .holds (c .before .before .before .before .if3 .taken)) (c .before .before .linked-count .ensures) (decides-le (c .before .before .before .before .before .before .before .before .before .before .before .before .before .before .before .before .args .k) _) in
-    (omega arith, c .mark .ensures .len ∙ c .before .before .before .before .before .before .before .before .loop .inv .1, marks-more (c .before .before .before .before .before .before .before .before .loop .inv .2) on (c .mark .ensures))
+    let start = c .before .before .before .before .before .before .before .before .before .before .before .before .before .before .before .before .before in
+    let at-loop = c .before .before .before .before .before .before .before .before in
+    let reached = c .before .before .before .before .before .before .before .before .before .before .before .before .before .before .before .reached in
+    let inside = c .before .before .before .before .before .before .if2 .taken in
+    let here = c .before .before .before .before .before .has .ensures .holds (c .before .before .before .before .if3 .taken) in
+    let count = c .before .before .linked-count .ensures in
+    let lead = c .before .before .before .before .before .before .before .before .before .before .before .before .before .keep-leaders .ensures .1 in
+    let told = several-articles (start .args .p .now) (start .args .q .now) (reached .result) (start .args .u) (at-loop .loop .x) (start .pre .1) (reached .ensures) lead inside here count (decides-le (start .args .k) _) in
+    (omega (arith, inside), c .mark .ensures .len ∙ at-loop .loop .inv .1, marks-more (at-loop .loop .inv .2) told (c .mark .ensures))
 
 add-next : tie.Need-add-next Inv-loop μ-loop
 add-next c = omega arith
@@ -73,8 +83,10 @@ loop-less-2 c = omega (arith, c .next .ensures .from)
 
 loop-again-2 : tie.Need-loop-again-2 Inv-loop μ-loop
 loop-again-2 c =
+    let start = c .before .before .before .before .before .before .before .before .before .before .before .before .before .before .before in
+    let at-loop = c .before .before .before .before .before .before in
     let none = none-between (c .before .before .before .has .ensures .fails (c .before .before .if3 .left)) (c .next .ensures) in
-    (c .next .ensures .within, c .before .before .before .before .before .before .loop .inv .1, marks-skip (c .before .before .before .before .before .before .loop .inv .2) (omega (arith, c .next .ensures .from)) (λ z l h. several-some (c .before .before .before .before .before .before .before .before .before .before .before .before .before .before .args .u) (c .before .before .before .before .before .before .before .before .before .before .before .before .before .before .args .k) z (c .before .before .before .before .before .before .before .before .before .before .before .before .before .before .pre .2) (c .before .before .before .before .before .before .before .before .before .before .before .before .before .before .pre .3) (omega (arith, c .next .ensures .within)) (none z l h)))
+    (c .next .ensures .within, at-loop .loop .inv .1, marks-skip (at-loop .loop .inv .2) (omega (arith, c .next .ensures .from)) (λ z l h. several-some (start .args .u) (start .args .k) z (start .pre .2) (start .pre .3) (omega (arith, c .next .ensures .within)) (none z l h)))
 
 returns-2 : tie.Need-returns-2 Inv-loop μ-loop
 returns-2 c = marks-done (c .before .before .loop .inv .2) (c .before .before .loop .inv .0) (omega arith)
@@ -85,10 +97,10 @@ several-spec =
     (tie.spec
     Inv-loop
     μ-loop
-    apart-requires
+    reached-requires
+    keep-leaders-requires
     empty-requires
-    slice-aggregate-common
-    common-requires
+    size-requires
     returns
     loop-holds
     has-requires
