@@ -1,4 +1,4 @@
 -- What the functions on rows do: no promise of an entry point mentions it.
 pub mod Row
 pub mod Tally
-pub mod Many
+pub mod Lead

@@ -6,7 +6,7 @@ ghost use Rattle.row.specs.own.Pick.{Marks, room};
 ghost use Rattle.store.specs.Cell.{DeclaredItem};
 ghost use Rattle.store.specs.Layout.{ClosedStore, Holds};
 ghost use Rattle.store.specs.own.Laid.{Laid};
-ghost use Rattle.expression.specs.own.Many.{Leads};
+ghost use Rattle.expression.specs.own.Lead.{Leads};
 use row::Row;
 use store::Counts;
 use store::Item;

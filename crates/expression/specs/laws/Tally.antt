@@ -2,8 +2,8 @@
 use mathlib.Core.Path.{_≡_, refl, sym, ap, _∙_, subst}
 use mathlib.Core.Logic.{_⊎_, inl, inr, ⊎-elim}
 use mathlib.Core.Bool.{true}
-use mathlib.Core.List.{List, [], _∷_}
-use Prim.Native.Nat.{ℕ, zero, suc, _+_, _-_, _*_, _/_, _%_, _^_, _≤_, _<_}
+use mathlib.Core.List.{List}
+use Prim.Native.Nat.{ℕ, zero, suc, _+_, _-_, _/_, _%_, _^_, _≤_, _<_}
 use native.Mathlib.Nat.{pow-suc, div-one, mod-lt}
 use native.Mathlib.Omega.{arith}
 use native.Mathlib.Decide.{ℕ-discrete, decLt}
@@ -11,14 +11,12 @@ use lib.Bits.{bitOr, bitAnd}
 use lib.Pow.{pow-pos}
 use lib.ListN.{length, getD, set, length-set}
 use lib.Seq.{getD-set-same, getD-set-other}
-use Rattle.logic.specs.Number.{Number, One}
-use Rattle.logic.specs.Number.One.{first}
-use Rattle.logic.specs.laws.Number.{number-iff, number-more, number-none, number-unique}
+use Rattle.logic.specs.laws.Number.{number-iff, number-more, number-none, number-unique, one-of}
 use Rattle.row.specs.Bit.{Has}
 use Rattle.row.specs.own.Row.{RowHas}
-use Rattle.row.specs.own.Pick.{Empty, Marks, room}
+use Rattle.row.specs.own.Pick.{Marks}
 use Rattle.row.specs.laws.Bit.{and-has, and-left, and-right, at-place, half-has, has?, has-or, moved, or-left, or-right, zero-none}
-use Rattle.row.specs.laws.Marks.{marks-iff, marks-never}
+use Rattle.row.specs.laws.Marks.{words-more}
 use Rattle.row.specs.laws.Rows.{zero-word, zeros}
 use Rattle.store.specs.declared.Counts.{Counts}
 use Rattle.store.specs.Cell.{Cell}
@@ -27,7 +25,7 @@ use Rattle.store.specs.Layout.{ClosedStore, Holds}
 use Rattle.store.specs.own.Look.{LinkWord}
 use Rattle.rule.specs.Meaning.{Articles, LinkedWay}
 use Rattle.rule.specs.declared.RoleUse.{RoleUse}
-use Rattle.expression.specs.own.Many.{Leads}
+use Rattle.expression.specs.own.Lead.{Leads}
 use Rattle.expression.specs.own.Tally.{AllTell, Blank, Counted, LinkedBelow, Tallied, Tells, tallyWords}
 use Rattle.expression.specs.laws.Many.{articles-enough, enough-articles}
 
@@ -155,50 +153,31 @@ tallied-done {k = k} m l x q = tells-iff (λ v z. (z .1, z .2)) (λ v z. (omega 
 
 -- ---- the row, word by word
 
--- before the first word
-pub words-none : {n : ℕ} {r : List ℕ} {P : ℕ → Type 0} → Empty r → Marks n r (λ x. (x / 64 < 0) × P x)
-words-none e = marks-never e (λ x l z. omega (arith, z .0))
-
--- after the last word
-pub words-done : {n h : ℕ} {r : List ℕ} {P : ℕ → Type 0} → Marks n r (λ x. (x / 64 < h) × P x) → n ≤ 64 * h → Marks n r P
-words-done m l = marks-iff (λ x lx z. z .1) (λ x lx z. (omega arith, z)) m
-
--- where a number is not 0 there is one
-some-one : {P : ℕ → Type 0} {m : ℕ} → Number P m → 1 ≤ m → (y : ℕ) × P y
-some-one {P} {m} a l = go (a .all) (a .count) (a .sound)
+-- a word more of the items that the role r links k or more articles of the row p to, by the items of p that lead
+pub articles-more : {W : ℕ} {n : Counts} {s lead : List ℕ} {r k h w : ℕ} {t : List ℕ} (p both : List ℕ) → ClosedStore W n s → Marks (n .items) lead (Leads (Holds W n s) (RowHas both)) → Marks (n .items) both (RowHas p)
+    → Marks (n .items) t (λ x. (x / 64 < h) × Articles (Holds W n s) n k (λ y. LinkedWay (Holds W n s) true r x y × RowHas p y)) → h < length t → 1 ≤ k
+    → AllTell h k (λ x y. LinkedWay (Holds W n s) true r x y × RowHas lead y) w → Marks (n .items) (set t h w) (λ x. (x / 64 < h + 1) × Articles (Holds W n s) n k (λ y. LinkedWay (Holds W n s) true r x y × RowHas p y))
+articles-more {W} {n} {s} {lead} {r} {k} {h} {w} p both closed d b m l some f = words-more m l sound whole
   where
-    go : (xs : List ℕ) → length xs ≡ m → ((y : ℕ) → One y xs → P y) → (y : ℕ) × P y
-    go [] e f = absurd (omega arith)
-    go (y ∷ xs) e f = (y, f y first)
+    C : Cell → Type 0
+    C = Holds W n s
 
-module _ {W : ℕ} {n : Counts} {s lead : List ℕ} (p both : List ℕ) (closed : ClosedStore W n s) (d : Marks (n .items) lead (Leads (Holds W n s) (RowHas both))) (b : Marks (n .items) both (RowHas p)) where
-  -- one word more
-  pub words-more : {r k h w : ℕ} {t : List ℕ} → Marks (n .items) t (λ x. (x / 64 < h) × Articles (Holds W n s) n k (λ y. LinkedWay (Holds W n s) true r x y × RowHas p y)) → length t ≡ room → h < room → 1 ≤ k
-      → AllTell h k (λ x y. LinkedWay (Holds W n s) true r x y × RowHas lead y) w → Marks (n .items) (set t h w) (λ x. (x / 64 < h + 1) × Articles (Holds W n s) n k (λ y. LinkedWay (Holds W n s) true r x y × RowHas p y))
-  words-more {r} {k} {h} {w} {t} m len l some f = record { sound = λ x z. sound x z (ℕ-discrete (x / 64) h); whole = λ x lx z. whole x lx z (ℕ-discrete (x / 64) h) }
-    where
-      C : Cell → Type 0
-      C = Holds W n s
+    back : RoleUse
+    back = record { role = record { 0 = r }; inverse = true }
 
-      Enough : ℕ → Type 0
-      Enough x = Articles C n k (λ y. LinkedWay C true r x y × RowHas p y)
+    to : (y : ℕ) → RowHas both y → RowHas p y
+    to y z = b .sound y z .1
 
-      back : RoleUse
-      back = record { role = record { 0 = r }; inverse = true }
+    from : (x y : ℕ) → C (Link r y x) → RowHas p y → RowHas both y
+    from x y z e = b .whole y (z .within .1) e
 
-      from : (x y : ℕ) → C (Link r y x) → RowHas p y → RowHas both y
-      from x y z h′ = b .whole y (z .within .1) h′
+    sound : (x : ℕ) → x / 64 ≡ h → Has w (x % 64) → (x < n .items) × Articles C n k (λ y. LinkedWay C true r x y × RowHas p y)
+    sound x q z =
+        let e = f x q in
+        let enough = e .sound z in
+        let o = one-of (e .counted .all) (omega (arith, e .counted .count)) in
+        let lx = e .counted .sound (o .0) (o .1) .0 .within .2 in
+        (lx, enough-articles both back x closed d lx to (from x) (e .counted) enough)
 
-      sound : (x : ℕ) → RowHas (set t h w) x → Dec (x / 64 ≡ h) → (x < n .items) × ((x / 64 < h + 1) × Enough x)
-      sound x z (yes q) =
-          let e = f x q in
-          let enough = e .sound (moved (ap (λ (i : ℕ). getD (set t h w) i 0) q ∙ getD-set-same t h w 0 (omega arith)) z) in
-          let lx = some-one (e .counted) (omega arith) .1 .0 .within .2 in
-          (lx, (omega arith, enough-articles both back x closed d lx (λ y h′. b .sound y h′ .1) (from x) (e .counted) enough))
-      sound x z (no q) = let y = m .sound x (moved (getD-set-other t h (x / 64) w 0 q) z) in (y .0, (omega (arith, y .1 .0), y .1 .1))
-
-      whole : (x : ℕ) → x < n .items → (x / 64 < h + 1) × Enough x → Dec (x / 64 ≡ h) → RowHas (set t h w) x
-      whole x lx z (yes q) =
-          let e = f x q in
-          moved (sym (ap (λ (i : ℕ). getD (set t h w) i 0) q ∙ getD-set-same t h w 0 (omega arith))) (e .whole (articles-enough both back x closed d lx (λ y h′. b .sound y h′ .1) (from x) (e .counted) (z .1)))
-      whole x lx z (no q) = moved (sym (getD-set-other t h (x / 64) w 0 q)) (m .whole x lx (omega (arith, z .0), z .1))
+    whole : (x : ℕ) → x / 64 ≡ h → x < n .items → Articles C n k (λ y. LinkedWay C true r x y × RowHas p y) → Has w (x % 64)
+    whole x q lx z = let e = f x q in e .whole (articles-enough both back x closed d lx to (from x) (e .counted) z)

@@ -37,6 +37,11 @@ without-keeps (later o) (later q) = ⊎-elim inl (λ r. inr (later r)) (without-
 pub one-none : {A : Type 0} {x : A} → ¬ (One x [])
 one-none o = omega (arith, without-length o)
 
+-- a list that is not empty has one
+pub one-of : {A : Type 0} (xs : List A) → 0 < length xs → (x : A) × One x xs
+one-of [] l = absurd (omega arith)
+one-of (x ∷ xs) l = (x, first)
+
 -- a list without repeats is no longer than one that has all its members
 pub length-le : {A : Type 0} {xs ys : List A} → Distinct xs → ((x : A) → One x xs → One x ys) → length xs ≤ length ys
 length-le none f = omega arith

@@ -1,14 +1,18 @@
 -- Laws of the rows that mark what has a property. Assumes nothing.
-use mathlib.Core.Path.{_≡_, refl, sym, subst}
+use mathlib.Core.Path.{_≡_, refl, sym, ap, _∙_, subst}
 use mathlib.Core.Logic.{_⊎_, inl, inr}
 use mathlib.Core.Bool.{Bool, true, false}
 use mathlib.Core.List.{List}
-use Prim.Native.Nat.{ℕ, _+_, _*_, _≤_, _<_}
+use Prim.Native.Nat.{ℕ, _+_, _*_, _/_, _%_, _≤_, _<_}
 use native.Mathlib.Omega.{arith}
 use native.Mathlib.Decide.{decLt, ℕ-discrete}
+use lib.ListN.{length, getD, set}
+use lib.Seq.{getD-set-same, getD-set-other}
 use Rattle.logic.specs.own.Decides.{Decides}
+use Rattle.row.specs.Bit.{Has}
 use Rattle.row.specs.own.Row.{RowHas}
 use Rattle.row.specs.own.Pick.{AllBelow, Empty, Marked, Marks, Met, Without, room}
+use Rattle.row.specs.laws.Bit.{moved}
 
 -- an empty row marks all that there is below 0
 pub marks-none : {r : List ℕ} {P : ℕ → Type 0} → Empty r → Marks 0 r P
@@ -75,3 +79,29 @@ marks-skip {i} {j} {r} {P} m l f = record { sound = λ x h. let y = m .sound x h
     whole : (x : ℕ) → x < j → P x → Dec (x < i) → RowHas r x
     whole x lx p (yes h) = m .whole x h p
     whole x lx p (no h) = absurd (f x (omega arith) lx p)
+
+-- ---- a row made word by word
+
+-- before the first word
+pub words-none : {n : ℕ} {r : List ℕ} {P : ℕ → Type 0} → Empty r → Marks n r (λ x. (x / 64 < 0) × P x)
+words-none e = marks-never e (λ x l z. omega (arith, z .0))
+
+-- one word more
+pub words-more : {n h w : ℕ} {r : List ℕ} {P : ℕ → Type 0} → Marks n r (λ x. (x / 64 < h) × P x) → h < length r → ((x : ℕ) → x / 64 ≡ h → Has w (x % 64) → (x < n) × P x)
+    → ((x : ℕ) → x / 64 ≡ h → x < n → P x → Has w (x % 64)) → Marks n (set r h w) (λ x. (x / 64 < h + 1) × P x)
+words-more {n} {h} {w} {r} {P} m l f g = record { sound = λ x z. sound x z (ℕ-discrete (x / 64) h); whole = λ x lx z. whole x lx z (ℕ-discrete (x / 64) h) }
+  where
+    here : (x : ℕ) → x / 64 ≡ h → getD (set r h w) (x / 64) 0 ≡ w
+    here x q = ap (λ (i : ℕ). getD (set r h w) i 0) q ∙ getD-set-same r h w 0 l
+
+    sound : (x : ℕ) → RowHas (set r h w) x → Dec (x / 64 ≡ h) → (x < n) × ((x / 64 < h + 1) × P x)
+    sound x z (yes q) = let y = f x q (moved (here x q) z) in (y .0, (omega arith, y .1))
+    sound x z (no q) = let y = m .sound x (moved (getD-set-other r h (x / 64) w 0 q) z) in (y .0, (omega (arith, y .1 .0), y .1 .1))
+
+    whole : (x : ℕ) → x < n → (x / 64 < h + 1) × P x → Dec (x / 64 ≡ h) → RowHas (set r h w) x
+    whole x lx z (yes q) = moved (sym (here x q)) (g x q lx (z .1))
+    whole x lx z (no q) = moved (sym (getD-set-other r h (x / 64) w 0 q)) (m .whole x lx (omega (arith, z .0), z .1))
+
+-- after the last word
+pub words-done : {n h : ℕ} {r : List ℕ} {P : ℕ → Type 0} → Marks n r (λ x. (x / 64 < h) × P x) → n ≤ 64 * h → Marks n r P
+words-done m l = marks-iff (λ x lx z. z .1) (λ x lx z. (omega arith, z)) m

@@ -7,8 +7,8 @@ use lib.ListN.{length}
 use Rattle.row.specs.own.Row.{RowHas}
 use Rattle.row.specs.own.Pick.{Marks, room}
 use Rattle.store.specs.Layout.{Holds}
-use Rattle.expression.specs.own.Many.{Kept}
-use Rattle.expression.specs.laws.Many.{kept-done, kept-more, kept-none, kept-skip}
+use Rattle.expression.specs.own.Lead.{Kept}
+use Rattle.expression.specs.laws.Lead.{kept-done, kept-more, kept-none, kept-skip}
 use Rattle.expression.proofs.lead.keep_leaders.Statement.{statement}
 use Rattle.expression.proofs.lead.keep_leaders.Tie as tie
 

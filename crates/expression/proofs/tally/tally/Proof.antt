@@ -9,7 +9,8 @@ use Rattle.row.specs.own.Row.{RowHas}
 use Rattle.row.specs.own.Pick.{Marks, room}
 use Rattle.store.specs.Layout.{Holds}
 use Rattle.rule.specs.Meaning.{Articles, LinkedWay}
-use Rattle.expression.specs.laws.Tally.{words-done, words-more, words-none}
+use Rattle.row.specs.laws.Marks.{words-done, words-none}
+use Rattle.expression.specs.laws.Tally.{articles-more}
 use Rattle.expression.proofs.tally.tally.Statement.{statement}
 use Rattle.expression.proofs.tally.tally.Tie as tie
 
@@ -52,7 +53,7 @@ loop-again c =
     let start = c .before .before .before .before .before .before .before .before .before .before in
     let at-loop = c .before .before .before .before in
     let within = c .before .before .before .before .before .before .before .before .within in
-    let more = words-more (start .args .p .now) (within .result) (start .pre .1) (c .before .before .before .before .before .before .keep-leaders .ensures .1) (within .ensures) (at-loop .loop .inv .2) (at-loop .loop .inv .1) (omega (arith, start .pre .0 .wide)) (start .pre .3) (c .tally-word .ensures) in
+    let more = articles-more (start .args .p .now) (within .result) (start .pre .1) (c .before .before .before .before .before .before .keep-leaders .ensures .1) (within .ensures) (at-loop .loop .inv .2) (omega (arith, start .pre .0 .wide, at-loop .loop .inv .1)) (start .pre .3) (c .tally-word .ensures) in
     (omega arith, length-set (at-loop .loop .r) _ _ ∙ at-loop .loop .inv .1, more)
 
 returns : tie.Need-returns Inv-loop μ-loop
