@@ -3,6 +3,7 @@ ghost use mathlib.Core.Path.{_≡_};
 ghost use mathlib.Core.Bool.{true};
 ghost use Rattle.text.specs.Bytes.{same};
 ghost use Rattle.text.specs.Text.{decimal};
+ghost use Rattle.store.specs.own.Laid.{Laid};
 ghost use Rattle.sheet.specs.own.Pass.{Judges};
 ghost use Rattle.field.specs.own.Table.{tableOf};
 ghost use Rattle.why.specs.own.Asked.{Of};
@@ -11,6 +12,7 @@ ghost use Rattle.answer.specs.own.Asked.{BreakingIf, FindingIf, SidesIf}
 use crate::FindingAsked;
 use finding::Sides;
 use store::Counts;
+use store::Layout;
 
 // Whether a field is a number in decimal, without leading zeros.
 fn is_number(f: &[u8], n: usize) -> bool
@@ -27,15 +29,16 @@ fn sides_if(
     names: &[u32],
     counts: Counts,
     words: &[u64],
+    at: Layout,
     k: usize,
     a: usize,
     on: bool,
 ) -> Sides
-    requires { ⌜ Judges (now sheet) (tableOf (now names) counts) (now words) ⌝ }
-    ensures { λ r. ⌜ BreakingIf on (now (sheet .entry)) (tableOf (now (names .entry)) counts) (now (words .entry)) k a r ⌝ }
+    requires { ⌜ Judges (at .width) (now sheet) (tableOf (now names) counts) (now words) × Laid at (now words) ⌝ }
+    ensures { λ r. ⌜ BreakingIf (at .width) on (now (sheet .entry)) (tableOf (now (names .entry)) counts) (now (words .entry)) k a r ⌝ }
 {
     if on {
-        return finding::broken(sheet, names, counts, words, k, a);
+        return finding::broken(sheet, names, counts, words, at, k, a);
     }
     Sides {
         named: false,
@@ -45,15 +48,23 @@ fn sides_if(
 }
 
 // The sides of a rule in the line that the field f says, if the item a breaks it.
-fn sides(sheet: &[u8], names: &[u32], counts: Counts, words: &[u64], f: &[u8], a: usize) -> Sides
-    requires { ⌜ Judges (now sheet) (tableOf (now names) counts) (now words) ⌝ }
-    ensures { λ r. ⌜ Of (now (sheet .entry)) (tableOf (now (names .entry)) counts) (λ x. SidesIf (r .named) counts x (now (words .entry)) (now (f .entry)) a r) ⌝ }
+fn sides(
+    sheet: &[u8],
+    names: &[u32],
+    counts: Counts,
+    words: &[u64],
+    at: Layout,
+    f: &[u8],
+    a: usize,
+) -> Sides
+    requires { ⌜ Judges (at .width) (now sheet) (tableOf (now names) counts) (now words) × Laid at (now words) ⌝ }
+    ensures { λ r. ⌜ Of (now (sheet .entry)) (tableOf (now (names .entry)) counts) (λ x. SidesIf (at .width) (r .named) counts x (now (words .entry)) (now (f .entry)) a r) ⌝ }
 {
     let mut q = sheet::pass::first(sheet, names, counts);
     let mut n = 0;
-    let mut s = sides_if(sheet, names, counts, words, 0, a, false);
+    let mut s = sides_if(sheet, names, counts, words, at, 0, a, false);
     while q.found {
-        s = sides_if(sheet, names, counts, words, n, a, is_number(f, q.line));
+        s = sides_if(sheet, names, counts, words, at, n, a, is_number(f, q.line));
         if s.named {
             return s;
         }
@@ -64,9 +75,16 @@ fn sides(sheet: &[u8], names: &[u32], counts: Counts, words: &[u64], f: &[u8], a
 }
 
 // The finding that a question asks for whose first field is `finding`.
-pub fn finding(sheet: &[u8], names: &[u32], counts: Counts, words: &[u64], q: &[u8]) -> FindingAsked
-    requires { ⌜ Judges (now sheet) (tableOf (now names) counts) (now words) × (aboutFinding (now q) ≡ true) ⌝ }
-    ensures { λ r. ⌜ Of (now (sheet .entry)) (tableOf (now (names .entry)) counts) (λ x. FindingIf (r .found) counts x (now (words .entry)) (now (q .entry)) r) ⌝ }
+pub fn finding(
+    sheet: &[u8],
+    names: &[u32],
+    counts: Counts,
+    words: &[u64],
+    layout: Layout,
+    q: &[u8],
+) -> FindingAsked
+    requires { ⌜ Judges (layout .width) (now sheet) (tableOf (now names) counts) (now words) × (aboutFinding (now q) ≡ true) × Laid layout (now words) ⌝ }
+    ensures { λ r. ⌜ Of (now (sheet .entry)) (tableOf (now (names .entry)) counts) (λ x. FindingIf (layout .width) (r .found) counts x (now (words .entry)) (now (q .entry)) r) ⌝ }
 {
     if text::part::count(q, 9) != 3 {
         return FindingAsked {
@@ -84,6 +102,7 @@ pub fn finding(sheet: &[u8], names: &[u32], counts: Counts, words: &[u64], q: &[
         names,
         counts,
         words,
+        layout,
         reader::line::field(q, at),
         item,
     );

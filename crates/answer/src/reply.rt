@@ -1,10 +1,16 @@
 // The answer to a question about a sheet, as text.
 ghost use mathlib.Core.Path.{_≡_};
 ghost use mathlib.Core.Bool.{true};
+ghost use Prim.Native.Nat.{_≤_};
+ghost use lib.ListN.{length, replicate};
 ghost use Rattle.store.specs.Cell.{cellOf};
+ghost use Rattle.store.specs.Layout.{large, size, small};
+ghost use Rattle.store.specs.own.Laid.{Laid, widest};
 ghost use Rattle.sheet.specs.Promise.{refusedText};
-ghost use Rattle.field.specs.own.Table.{Tidy, namesOf, tableOf};
+ghost use Rattle.field.specs.own.Table.{Tidy, namesOf, numberCount, tableOf};
+ghost use Rattle.reason.specs.own.Promise.{Lent};
 ghost use Rattle.why.specs.own.Asked.{Asked, Of};
+ghost use Rattle.why.specs.own.Gather.{Searched};
 ghost use Rattle.answer.specs.Promise.{Fitted, Replies};
 ghost use Rattle.question.specs.Question.{aboutFinding};
 ghost use Rattle.cited.specs.own.Writing.{Accepted};
@@ -15,8 +21,10 @@ use reason::Lines;
 use store::Concept;
 use store::Counts;
 use store::Item;
+use store::Layout;
 use store::Statement;
 use store::Store;
+use why::Paths;
 
 // Writes the line of a refusal, if it has place in the room; gives its length.
 fn refuse(room: &mut [u8], line: usize, why: usize) -> usize
@@ -50,20 +58,22 @@ fn fit(
     cited::print::put_reason(sheet, names, counts, marks, a, room)
 }
 
-// Writes the text of a reason for a cell that follows, with what is absent, if it has place in the room; gives its length.
+// Writes the text of a reason for a cell that follows, with what is absent, if it has place in the room; gives its length. The words lent have room for a row of `width` words for each item.
 fn explain(
     sheet: &[u8],
     names: &[u32],
     counts: Counts,
     cell: Statement,
     a: Absent,
+    table: &mut [u64],
+    width: usize,
     room: &mut [u8],
 ) -> usize
-    requires { ⌜ Asked (now sheet) (tableOf (now names) counts) (cellOf cell) ⌝ }
+    requires { ⌜ Asked (now sheet) (tableOf (now names) counts) (cellOf cell) × Searched width counts (now table) ⌝ }
     ensures { λ r. ⌜ Of (now (sheet .entry)) (tableOf (now (names .entry)) counts) (λ x. ReasonSaid (now (sheet .entry)) x counts (cellOf cell) a (now (room .entry)) (now (room .exit)) r) ⌝ }
 {
     let mut marks = [0u64; Lines::WORDS];
-    why::gather::reasoned(sheet, names, counts, cell, &mut marks);
+    why::gather::reasoned(sheet, names, counts, cell, table, width, &mut marks);
     fit(sheet, names, counts, &marks, a, room)
 }
 
@@ -73,18 +83,20 @@ fn cell(
     names: &[u32],
     counts: Counts,
     words: &[u64],
+    at: Layout,
+    table: &mut [u64],
     q: &[u8],
     room: &mut [u8],
 ) -> usize
-    requires { ⌜ Known (now sheet) (tableOf (now names) counts) (now words) ⌝ }
-    ensures { λ r. ⌜ CellReply (now (sheet .entry)) (now (q .entry)) (now (room .entry)) (now (room .exit)) r ⌝ }
+    requires { ⌜ Known (at .width) (now sheet) (tableOf (now names) counts) (now words) × Laid at (now words) × Searched (at .width) counts (now table) ⌝ }
+    ensures { λ r. ⌜ CellReply (at .width) (now (sheet .entry)) (now (q .entry)) (now (room .entry)) (now (room .exit)) r ⌝ }
 {
     let c = question::ask::cell(sheet, names, counts, q);
     if !c.asked {
         return refuse(room, 0, 24);
     }
     let s = c.cell;
-    if !store::look::told(words, store::size::layout(), counts, s) {
+    if !store::look::told(words, at, counts, s) {
         return refuse(room, 0, 24);
     }
     let a = Absent {
@@ -92,7 +104,7 @@ fn cell(
         item: 0,
         concept: 0,
     };
-    explain(sheet, names, counts, s, a, room)
+    explain(sheet, names, counts, s, a, table, at.width, room)
 }
 
 // Answers a question for a finding.
@@ -101,13 +113,15 @@ fn finding(
     names: &[u32],
     counts: Counts,
     words: &[u64],
+    at: Layout,
+    table: &mut [u64],
     q: &[u8],
     room: &mut [u8],
 ) -> usize
-    requires { ⌜ Known (now sheet) (tableOf (now names) counts) (now words) × (aboutFinding (now q) ≡ true) ⌝ }
-    ensures { λ r. ⌜ FindingReply (now (sheet .entry)) (now (q .entry)) (now (room .entry)) (now (room .exit)) r ⌝ }
+    requires { ⌜ Known (at .width) (now sheet) (tableOf (now names) counts) (now words) × (aboutFinding (now q) ≡ true) × Laid at (now words) × Searched (at .width) counts (now table) ⌝ }
+    ensures { λ r. ⌜ FindingReply (at .width) (now (sheet .entry)) (now (q .entry)) (now (room .entry)) (now (room .exit)) r ⌝ }
 {
-    let f = crate::ask::finding(sheet, names, counts, words, q);
+    let f = crate::ask::finding(sheet, names, counts, words, at, q);
     if !f.found {
         return refuse(room, 0, 25);
     }
@@ -117,16 +131,24 @@ fn finding(
         item: f.item,
         concept: f.right,
     };
-    explain(sheet, names, counts, left, a, room)
+    explain(sheet, names, counts, left, a, table, at.width, room)
 }
 
-// Answers a question about a sheet: writes the text to the room, if it has place there; gives its length.
-pub fn reply(sheet: &[u8], question: &[u8], room: &mut [u8]) -> usize
-    ensures { λ r. ⌜ Replies (now (sheet .entry)) (now (question .entry)) (now (room .entry)) (now (room .exit)) r ⌝ }
+// Answers a question about a sheet, which is read into words that are all 0, a store whose item rows have so many words, with numbers lent for its names and words for the search.
+fn answer(
+    sheet: &[u8],
+    question: &[u8],
+    words: &mut [u64],
+    width: usize,
+    names: &mut [u32],
+    table: &mut [u64],
+    room: &mut [u8],
+) -> usize
+    requires { ⌜ (now words ≡ replicate (size width) 0) × (numberCount width ≤ length (now names)) × (width ≤ widest) × (small ≤ width) × Lent width (now table) ⌝ }
+    ensures { λ r. ⌜ Replies width (now (sheet .entry)) (now (question .entry)) (now (room .entry)) (now (room .exit)) r ⌝ }
 {
-    let mut words = [0u64; Store::WORDS];
-    let mut names = [0u32; Table::NUMBERS];
-    let e = sheet::sheets::fill_blank(sheet, &mut words, &mut names);
+    let at = store::size::layout(width);
+    let e = sheet::sheets::fill_blank(sheet, words, at, names);
     if e.why != 0 {
         return refuse(room, e.line, e.why);
     }
@@ -134,7 +156,43 @@ pub fn reply(sheet: &[u8], question: &[u8], room: &mut [u8]) -> usize
     let counts = kept.counts;
     let q = question::ask::bare(question);
     if question::ask::about_finding(q) {
-        return finding(sheet, &names, counts, &words, q, room);
+        return finding(sheet, names, counts, words, at, table, q, room);
     }
-    cell(sheet, &names, counts, &words, q, room)
+    cell(sheet, names, counts, words, at, table, q, room)
+}
+
+// Answers a question about a sheet, which is read with the smaller store: writes the text to the room, if it has place there; gives its length.
+pub fn reply(sheet: &[u8], question: &[u8], room: &mut [u8]) -> usize
+    ensures { λ r. ⌜ Replies small (now (sheet .entry)) (now (question .entry)) (now (room .entry)) (now (room .exit)) r ⌝ }
+{
+    let mut words = [0u64; Store::WORDS];
+    let mut names = [0u32; Table::NUMBERS];
+    let mut table = [0u64; Paths::WORDS];
+    answer(
+        sheet,
+        question,
+        &mut words,
+        Store::SMALL,
+        &mut names,
+        &mut table,
+        room,
+    )
+}
+
+// The same with the larger store.
+pub fn reply_large(sheet: &[u8], question: &[u8], room: &mut [u8]) -> usize
+    ensures { λ r. ⌜ Replies large (now (sheet .entry)) (now (question .entry)) (now (room .entry)) (now (room .exit)) r ⌝ }
+{
+    let mut words = [0u64; Store::LARGE_WORDS];
+    let mut names = [0u32; Table::LARGE_NUMBERS];
+    let mut table = [0u64; Paths::LARGE_WORDS];
+    answer(
+        sheet,
+        question,
+        &mut words,
+        Store::LARGE,
+        &mut names,
+        &mut table,
+        room,
+    )
 }

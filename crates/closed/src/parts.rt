@@ -4,7 +4,7 @@ ghost use lib.ListN.{length, getD};
 ghost use Rattle.logic.specs.own.Decides.{Decides};
 ghost use Rattle.row.specs.Bit.{Has};
 ghost use Rattle.inspect.specs.own.Test.{WordIncludes};
-ghost use Rattle.store.specs.Layout.{Fits, roleLimit, width};
+ghost use Rattle.store.specs.Layout.{Fits, roleLimit};
 ghost use Rattle.store.specs.own.Laid.{Laid};
 ghost use Rattle.closed.specs.own.Closed.{Clean, ConceptRules, ItemRules, LinkRules, PairIncludes, RoleBit, RoleRules, RoleSteps, RolesBelow, SameRules};
 ghost use Rattle.store.specs.own.RoleWord.{turned};

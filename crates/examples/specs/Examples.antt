@@ -13,7 +13,7 @@ use Rattle.store.specs.declared.Statement.{Statement}
 use Rattle.store.specs.declared.Statement.the-variants as statement
 use Rattle.store.specs.Cell.{Nothing, DeclaredItem}
 use Rattle.store.specs.Cell.Cell.{Same, RoleUnder, Link}
-use Rattle.store.specs.Layout.{ClosedStore, Fits, Holds, width}
+use Rattle.store.specs.Layout.{ClosedStore, Fits, Holds, large}
 use Rattle.store.specs.Keeps.{Keeps}
 use Rattle.closure.specs.Promise.{Adds}
 use Rattle.closure.specs.Lines.{Stated}
@@ -67,38 +67,38 @@ pub record IsAtLeast (k : ℕ) (u : Rule) : Type 0 where
 
 -- the rule `sub Blade some fits Hub`, among counts within the limits that have its two concepts and its role
 pub record BladesFit (n : Counts) (u : Rule) : Type 0 where
-  pub fits : Fits width n
+  pub fits : Fits large n
   pub concepts : 2 ≤ n .concepts
   pub roles : 1 ≤ n .roles
   pub nodes : u .len ≡ 3
   pub rule : IsAtLeast 1 u
 
--- all the examples that are marked P
-pub record Examples : Type 0 where
+-- all the examples that are marked P, in the stores of row width W
+pub record Examples (W : ℕ) : Type 0 where
   -- R under inverse of R, R links a to b: R links b to a
-  pub own-inverse : {n : Counts} {s : List ℕ} {r a b : ℕ} → ClosedStore width n s → Holds width n s (RoleUnder r true r) → Holds width n s (Link r a b) → Holds width n s (Link r b a)
+  pub own-inverse : {n : Counts} {s : List ℕ} {r a b : ℕ} → ClosedStore W n s → Holds W n s (RoleUnder r true r) → Holds W n s (Link r a b) → Holds W n s (Link r b a)
   -- R under inverse of S, S under inverse of T: R under T
-  pub inverse-twice : {n : Counts} {s : List ℕ} {r q t : ℕ} → ClosedStore width n s → Holds width n s (RoleUnder r true q) → Holds width n s (RoleUnder q true t)
-      → Holds width n s (RoleUnder r false t)
+  pub inverse-twice : {n : Counts} {s : List ℕ} {r q t : ℕ} → ClosedStore W n s → Holds W n s (RoleUnder r true q) → Holds W n s (RoleUnder q true t)
+      → Holds W n s (RoleUnder r false t)
   -- `same a a` on a fresh store: 0 new cells
-  pub same-itself : {n : Counts} {s t : List ℕ} {a : ℕ} {r : Answer} → DeclaredItem n a → Words 64 s → Words 64 t → Keeps width n Nothing s → Adds width n (Same a a) s t r → r ≡ Cells 0
+  pub same-itself : {n : Counts} {s t : List ℕ} {a : ℕ} {r : Answer} → DeclaredItem n a → Words 64 s → Words 64 t → Keeps W n Nothing s → Adds W n (Same a a) s t r → r ≡ Cells 0
   -- `same a b`, two items, nothing else: 2
-  pub same-two : {s t : List ℕ} {r : Answer} → Keeps width twoItems Nothing s → Adds width twoItems (Same 0 1) s t r → r ≡ Cells 2
+  pub same-two : {s t : List ℕ} {r : Answer} → Keeps W twoItems Nothing s → Adds W twoItems (Same 0 1) s t r → r ≡ Cells 2
   -- no items, `ref`: 0 findings
-  pub ref-none : {n : Counts} {s : List ℕ} {k : ℕ} {u : Rule} {fs : List Finding} → n .items ≡ 0 → IsRef u → Findings (Holds width n s) n k u fs → length fs ≡ 0
+  pub ref-none : {n : Counts} {s : List ℕ} {k : ℕ} {u : Rule} {fs : List Finding} → n .items ≡ 0 → IsRef u → Findings (Holds W n s) n k u fs → length fs ≡ 0
   -- one item, no links, `ref`: 1
-  pub ref-one : {n : Counts} {s : List ℕ} {k : ℕ} {u : Rule} {fs : List Finding} → n .items ≡ 1 → ((r a b : ℕ) → ¬ (Holds width n s (Link r a b))) → IsRef u
-      → Findings (Holds width n s) n k u fs → length fs ≡ 1
+  pub ref-one : {n : Counts} {s : List ℕ} {k : ℕ} {u : Rule} {fs : List Finding} → n .items ≡ 1 → ((r a b : ℕ) → ¬ (Holds W n s (Link r a b))) → IsRef u
+      → Findings (Holds W n s) n k u fs → length fs ≡ 1
   -- c in C, linked to d1 and d2 in D: `sub C atleast 2 R D` 0 findings
-  pub two-articles : {s : List ℕ} {k : ℕ} {u : Rule} {fs : List Finding} → Keeps width threeItems (Stated twoLinks) s → IsAtLeast 2 u → Findings (Holds width threeItems s) threeItems k u fs
+  pub two-articles : {s : List ℕ} {k : ℕ} {u : Rule} {fs : List Finding} → Keeps W threeItems (Stated twoLinks) s → IsAtLeast 2 u → Findings (Holds W threeItems s) threeItems k u fs
       → length fs ≡ 0
   -- with d1 same as d2: 1
-  pub one-article : {s : List ℕ} {k : ℕ} {u : Rule} {fs : List Finding} → Keeps width threeItems (Stated (sameLinks ∷ twoLinks)) s → IsAtLeast 2 u
-      → Findings (Holds width threeItems s) threeItems k u fs → length fs ≡ 1
+  pub one-article : {s : List ℕ} {k : ℕ} {u : Rule} {fs : List Finding} → Keeps W threeItems (Stated (sameLinks ∷ twoLinks)) s → IsAtLeast 2 u
+      → Findings (Holds W threeItems s) threeItems k u fs → length fs ≡ 1
   -- `sub Blade some fits Hub`: 5 query items and 1 answer variable, in a room of 20 words or more
-  pub five-items : {n : Counts} {u : Rule} {before after : List ℕ} {r : Outcome} → BladesFit n u → 20 ≤ length before → Compiles width n u before after r → r ≡ Compiled 5 1
+  pub five-items : {n : Counts} {u : Rule} {before after : List ℕ} {r : Outcome} → BladesFit n u → 20 ≤ length before → Compiles large n u before after r → r ≡ Compiled 5 1
   -- and in a shorter one it is refused by 6
-  pub five-items-room : {n : Counts} {u : Rule} {before after : List ℕ} {r : Outcome} → BladesFit n u → length before < 20 → Compiles width n u before after r → r ≡ Refused Room
+  pub five-items-room : {n : Counts} {u : Rule} {before after : List ℕ} {r : Outcome} → BladesFit n u → length before < 20 → Compiles large n u before after r → r ≡ Refused Room
   -- at least 2 R D: 7; 3: 15, for each role, each concept, each term and whatever the next variable
   pub seven-items : (r : RoleUse) (d : Concept) (t v : ℕ) → size (ofExpr (many 2 r (name d)) t v) ≡ 7
   pub fifteen-items : (r : RoleUse) (d : Concept) (t v : ℕ) → size (ofExpr (many 3 r (name d)) t v) ≡ 15

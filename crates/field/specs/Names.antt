@@ -7,7 +7,7 @@ use lib.ListN.{length, getD, drop}
 use Rattle.text.specs.Bytes.{between, place}
 use Rattle.text.specs.Date.{dateShaped, digit}
 use Rattle.text.specs.Name.{isName}
-use Rattle.store.specs.Layout.{conceptLimit, roleLimit, itemLimit, width}
+use Rattle.store.specs.Layout.{conceptLimit, roleLimit}
 use Rattle.store.specs.declared.Counts.{Counts}
 use Rattle.rule.specs.Form.{countLimit}
 use Rattle.field.specs.declared.Due.{Due}
@@ -17,11 +17,12 @@ use Rattle.field.specs.declared.Operator.the-variants as operator
 use Rattle.field.specs.Due.{isExpr, next}
 use Rattle.field.specs.Words.{Field, operatorOf, operatorWords, spellings}
 
--- the names declared so far, of each kind in order of declaration
+-- the names declared so far, of each kind in order of declaration, and how many items the sheet's edition has room for
 pub record Names : Type 0 where
   pub concepts : List Field
   pub roles : List Field
   pub items : List Field
+  pub room : ℕ
 
 -- how many they are
 abbrev pub countsOf : Names → Counts
@@ -66,7 +67,7 @@ nameFault names f = fault (not (isName f)) 15 (fault (not (declared f names)) 19
 unfoldable pub fieldFault : Names → Due → Field → ℕ
 fieldFault n NewConcept f = fault (not (isName f)) 15 (fault (reserved f) 15 (newFault conceptLimit (n .concepts) f))
 fieldFault n NewRole f = fault (not (isName f)) 15 (newFault roleLimit (n .roles) f)
-fieldFault n NewItem f = fault (not (isName f)) 15 (fault (dateShaped f) 16 (newFault (itemLimit width) (n .items) f))
+fieldFault n NewItem f = fault (not (isName f)) 15 (fault (dateShaped f) 16 (newFault (n .room) (n .items) f))
 fieldFault n Concept f = fault (reserved f) 15 (nameFault (n .concepts) f)
 fieldFault n Role f = nameFault (n .roles) f
 fieldFault n Item f = nameFault (n .items) f

@@ -109,22 +109,24 @@ impl Lineup {
     pub const CHAIN_LONGEST: usize = Rule::LONGEST + 1;
 }
 
-// The numbers lent for the names of a sheet: for each name an entry, which holds its tag (made of its last two bytes), its place in the sheet and its length; after the entries the hints, which say where to look first.
+// The numbers lent for the names of a sheet: first the hints, which say where to look for a name first; then for each name an entry, which holds its tag (made of its last two bytes), its place in the sheet and its length. All but the items are as many in every table, so the items come last.
 pub struct Table {}
 
 impl Table {
-    // Where the entries of concepts, of roles and of items begin.
-    pub const CONCEPTS: usize = 0;
-
-    pub const ROLES: usize = Store::CONCEPTS;
-
-    pub const ITEMS: usize = Table::ROLES + Store::ROLES;
-    // Where the hints begin.
-    pub const HINTS: usize = Table::ITEMS + Store::ITEMS;
     // How many hints there are.
     pub const KEYS: usize = 1024;
-    // How many numbers there are in all.
-    pub const NUMBERS: usize = Table::HINTS + Table::KEYS;
+    // Where the number of items stands that the sheet's edition has room for.
+    pub const ROOM: usize = Table::KEYS;
+    // Where the entries of concepts, of roles and of items begin.
+    pub const CONCEPTS: usize = Table::ROOM + 1;
+
+    pub const ROLES: usize = Table::CONCEPTS + Store::CONCEPTS;
+
+    pub const ITEMS: usize = Table::ROLES + Store::ROLES;
+    // How many numbers there are in all, for the items of the smaller store and for those of the larger.
+    pub const NUMBERS: usize = Table::ITEMS + Store::ITEMS;
+
+    pub const LARGE_NUMBERS: usize = Table::ITEMS + Store::LARGE_ITEMS;
     // How many tags there are.
     pub const TAGS: u32 = 2048;
     // How many places in a sheet an entry can tell.

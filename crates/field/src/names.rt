@@ -3,9 +3,10 @@ ghost use mathlib.Core.List.{map};
 ghost use Prim.Native.Nat.{_+_, _≤_, _<_};
 ghost use lib.ListN.{length};
 ghost use Rattle.logic.specs.Number.{Distinct};
+ghost use Rattle.store.specs.Layout.{large};
 ghost use Rattle.text.specs.Bytes.{place, same};
 ghost use Rattle.field.specs.Names.{inverted as invertedOf, plain as plainOf, countOf};
-ghost use Rattle.field.specs.own.Table.{Hinted, Placed, Tidy, entered, hintAt, hintCount, hintsFrom, keyOf, nameAt, namesOf, numberCount, tableOf, tagCount, tagOf};
+ghost use Rattle.field.specs.own.Table.{Hinted, Placed, Tidy, conceptsFrom, entered, hintAt, hintCount, keyOf, nameAt, namesOf, numberCount, roomAt, roomOf, tableOf, tagCount, tagOf};
 use crate::Table;
 use store::Counts;
 
@@ -85,25 +86,33 @@ fn key(w: &[u8]) -> usize
 
 // Where the hint for the name w stands, among the names whose entries begin at a place.
 pub fn hint_at(from: usize, w: &[u8]) -> usize
-    requires { ⌜ from < hintsFrom ⌝ }
-    ensures { λ r. ⌜ (r ≡ hintAt from (now (w .entry))) × (r < numberCount) ⌝ }
+    requires { ⌜ from < numberCount large ⌝ }
+    ensures { λ r. ⌜ (r ≡ hintAt from (now (w .entry))) × (r < hintCount) ⌝ }
 {
-    Table::HINTS + (key(w) + from) % Table::KEYS
+    (key(w) + from) % Table::KEYS
 }
 
-// A hint as a number.
-fn hinted(h: u32) -> usize
+// One of the lent numbers, as a count.
+fn number(h: u32) -> usize
     ensures { λ r. ⌜ r ≡ h ⌝ }
 {
     h as usize
 }
 
+// How many items the sheet's edition has room for.
+pub fn room(names: &[u32]) -> usize
+    requires { ⌜ roomAt < length (now names) ⌝ }
+    ensures { λ r. ⌜ r ≡ roomOf (now (names .entry)) ⌝ }
+{
+    number(names[Table::ROOM])
+}
+
 // The place of the name w among the n names whose entries begin at a place; n where it is none of them. Without a hint it is none of them; the place that the hint says, one less than it, is only tried first.
 fn find(sheet: &[u8], names: &[u32], from: usize, n: usize, w: &[u8]) -> usize
-    requires { ⌜ (length (now names) ≡ numberCount) × (from + n ≤ hintsFrom) × (from < hintsFrom) × Distinct (entered (now sheet) (now names) from n) × Hinted (now names) from (entered (now sheet) (now names) from n) ⌝ }
+    requires { ⌜ (conceptsFrom ≤ from) × (from < numberCount large) × (from + n ≤ length (now names)) × Distinct (entered (now sheet) (now names) from n) × Hinted (now names) from (entered (now sheet) (now names) from n) ⌝ }
     ensures { λ r. ⌜ Placed (now (w .entry)) (entered (now (sheet .entry)) (now (names .entry)) from n) n r ⌝ }
 {
-    let h = hinted(names[hint_at(from, w)]);
+    let h = number(names[hint_at(from, w)]);
     if h == 0 {
         return n;
     }

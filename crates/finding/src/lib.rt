@@ -1,8 +1,13 @@
 // Why an item is a finding of a rule `sub` with concept names on both sides.
 ghost use mathlib.Core.Path.{_≡_};
 ghost use mathlib.Core.Bool.{false};
+ghost use Prim.Native.Nat.{_≤_};
+ghost use lib.ListN.{length};
+ghost use Rattle.store.specs.Layout.{widthOf};
+ghost use Rattle.store.specs.own.Laid.{Laid};
 ghost use Rattle.sheet.specs.own.Pass.{Accepts, Judges};
-ghost use Rattle.field.specs.own.Table.{Tidy, tableOf};
+ghost use Rattle.field.specs.own.Table.{Tidy, numberCount, tableOf};
+ghost use Rattle.reason.specs.own.Promise.{Lent};
 ghost use Rattle.why.specs.own.Asked.{Of};
 ghost use Rattle.finding.specs.Finding.{ExplainsFinding};
 ghost use Rattle.finding.specs.own.Sides.{Breaking, NodeIs, RuleFound, SidesAre};
@@ -14,8 +19,10 @@ use sheet::RuleLine;
 use store::Concept;
 use store::Counts;
 use store::Item;
+use store::Layout;
 use store::Statement;
 use store::Store;
+use why::Paths;
 
 // What asking why an item is a finding gives.
 pub enum FindingExplained {
@@ -141,11 +148,12 @@ pub fn broken(
     names: &[u32],
     counts: Counts,
     words: &[u64],
+    at: Layout,
     k: usize,
     a: usize,
 ) -> Sides
-    requires { ⌜ Judges (now sheet) (tableOf (now names) counts) (now words) ⌝ }
-    ensures { λ r. ⌜ Breaking (now (sheet .entry)) (tableOf (now (names .entry)) counts) (now (words .entry)) k a r ⌝ }
+    requires { ⌜ Judges (at .width) (now sheet) (tableOf (now names) counts) (now words) × Laid at (now words) ⌝ }
+    ensures { λ r. ⌜ Breaking (at .width) (now (sheet .entry)) (tableOf (now (names .entry)) counts) (now (words .entry)) k a r ⌝ }
 {
     let q = rule_at(sheet, names, counts, k);
     if !q.found {
@@ -156,7 +164,6 @@ pub fn broken(
     if !s.named {
         return no_sides();
     }
-    let at = store::size::layout();
     let left = Statement::In(Item(a), Concept(s.left));
     if !store::look::told(words, at, counts, left) {
         return no_sides();
@@ -166,6 +173,57 @@ pub fn broken(
         return no_sides();
     }
     s
+}
+
+// Reads a sheet into the lent store, with numbers lent for its names and words for the search, and lists a reason for the item's being in the left concept of the rule with the number k, or says why not.
+fn answer(
+    sheet: &[u8],
+    words: &mut [u64],
+    names: &mut [u32],
+    table: &mut [u64],
+    k: usize,
+    a: Item,
+    room: &mut [u32],
+) -> FindingExplained
+    requires { ⌜ (numberCount (widthOf (now words)) ≤ length (now names)) × Lent (widthOf (now words)) (now table) ⌝ }
+    ensures { λ r. ⌜ ExplainsFinding (now (sheet .entry)) (now (words .entry)) (now (words .exit)) k (a .0) (now (room .entry)) (now (room .exit)) r ⌝ }
+{
+    if !store::size::long(words) {
+        return FindingExplained::Refused(0, 1);
+    }
+    let at = store::size::layout_of(words);
+    let e = sheet::sheets::fill(sheet, words, at, names);
+    if e.why != 0 {
+        return FindingExplained::Refused(e.line, e.why);
+    }
+    let kept = e.kept;
+    let counts = kept.counts;
+    let s = broken(sheet, names, counts, words, at, k, a.0);
+    if !s.named {
+        return FindingExplained::Refused(0, 25);
+    }
+    let left = Statement::In(a, Concept(s.left));
+    let total = why::list(sheet, names, counts, left, table, at.width, room);
+    FindingExplained::Lines(total, Concept(s.right))
+}
+
+// The same with a lent store that may be the larger one. A list of no place is answered as one of one place: a function that calls itself keeps its words off its caller's stack.
+fn explain_large(
+    sheet: &[u8],
+    words: &mut [u64],
+    k: usize,
+    a: Item,
+    room: &mut [u32],
+) -> FindingExplained
+    ensures { λ r. ⌜ ExplainsFinding (now (sheet .entry)) (now (words .entry)) (now (words .exit)) k (a .0) (now (room .entry)) (now (room .exit)) r ⌝ }
+{
+    if room.len() == 0 {
+        let mut own = [0u32; 1];
+        return explain_large(sheet, words, k, a, &mut own);
+    }
+    let mut names = [0u32; Table::LARGE_NUMBERS];
+    let mut table = [0u64; Paths::LARGE_WORDS];
+    answer(sheet, words, &mut names, &mut table, k, a, room)
 }
 
 // Reads a sheet into the lent store, and lists statement lines from which it follows that the item a is in the left concept of the rule with the number k, and from no part of them with a line
@@ -179,21 +237,10 @@ pub fn explain(
 ) -> FindingExplained
     ensures { λ r. ⌜ ExplainsFinding (now (sheet .entry)) (now (words .entry)) (now (words .exit)) k (a .0) (now (room .entry)) (now (room .exit)) r ⌝ }
 {
-    if words.len() != Store::WORDS {
-        return FindingExplained::Refused(0, 1);
+    if words.len() == Store::LARGE_WORDS {
+        return explain_large(sheet, words, k, a, room);
     }
     let mut names = [0u32; Table::NUMBERS];
-    let e = sheet::sheets::fill(sheet, words, &mut names);
-    if e.why != 0 {
-        return FindingExplained::Refused(e.line, e.why);
-    }
-    let kept = e.kept;
-    let counts = kept.counts;
-    let s = broken(sheet, &names, counts, words, k, a.0);
-    if !s.named {
-        return FindingExplained::Refused(0, 25);
-    }
-    let left = Statement::In(a, Concept(s.left));
-    let total = why::list(sheet, &names, counts, left, room);
-    FindingExplained::Lines(total, Concept(s.right))
+    let mut table = [0u64; Paths::WORDS];
+    answer(sheet, words, &mut names, &mut table, k, a, room)
 }

@@ -2,7 +2,7 @@
 mod findings;
 pub mod seek;
 
-ghost use Rattle.store.specs.Layout.{width};
+ghost use Rattle.store.specs.Layout.{widthOf};
 ghost use Rattle.judge.specs.Promise.{Totals};
 use breach::Plan;
 use row::Row;
@@ -60,7 +60,7 @@ pub struct Prepared {
 
 // How many findings the rule has in the store.
 pub fn count(words: &[u64], counts: Counts, rule: Rule) -> Total
-    ensures { λ r. ⌜ Totals width counts rule (now (words .entry)) r ⌝ }
+    ensures { λ r. ⌜ Totals (widthOf (now (words .entry))) counts rule (now (words .entry)) r ⌝ }
 {
     let p = seek::prepare(words, counts, 0, rule, 0);
     p.answer

@@ -1,5 +1,5 @@
 ghost use mathlib.Core.Path.{_≡_};
-ghost use Rattle.store.specs.Layout.{ClosedStore, width};
+ghost use Rattle.store.specs.Layout.{ClosedStore};
 ghost use Rattle.store.specs.own.Laid.{Laid};
 ghost use Rattle.judge.specs.own.Search.{Prepares, Ready, Starts, Stepped, Stops, cursorOf, searchAt};
 use crate::Cursor;
@@ -11,6 +11,7 @@ use breach::Plan;
 use rule::Rule;
 use store::Counts;
 use store::Layout;
+use store::Store;
 
 // The search at a cursor, for a rule with the number given.
 fn search_at(cursor: Cursor, number: usize, at: Layout, counts: Counts) -> Search
@@ -104,7 +105,7 @@ fn stop(counts: Counts, number: usize, rule: Rule, k: RuleRefusal) -> Prepared
         x: 0,
         y: 0,
     };
-    let at = store::size::layout();
+    let at = store::size::layout(Store::SMALL);
     let search = search_at(cursor, number, at, counts);
     Prepared {
         answer: Total::Refused(k),
@@ -120,7 +121,7 @@ pub fn prepare(words: &[u64], counts: Counts, number: usize, rule: Rule, room: u
     if !store::size::sized(words, counts) {
         return stop(counts, number, rule, RuleRefusal::Size);
     }
-    let at = store::size::layout();
+    let at = store::size::layout_of(words);
     if !closed::is_closed(words, at, counts) {
         return stop(counts, number, rule, RuleRefusal::NotClosed);
     }

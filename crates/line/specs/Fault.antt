@@ -1,5 +1,5 @@
 -- What is wrong with a line: the numbers of refusal 10 to 21.
-use mathlib.Core.Bool.{Bool, true, false, cond, not, _||_}
+use mathlib.Core.Bool.{Bool, true, false, cond, not, _||_, _&&_}
 use mathlib.Core.List.{List, _∷_, _++_}
 use Prim.Native.Nat.{ℕ}
 use lib.Dec.{leb, ltb}
@@ -7,6 +7,7 @@ use lib.ListN.{length}
 use Rattle.text.specs.Bytes.{bytes, every, same}
 use Rattle.text.specs.Name.{lineByte}
 use Rattle.text.specs.Split.{fields}
+use Rattle.store.specs.Layout.{itemLimit, large, small}
 use Rattle.rule.specs.Form.{nodeLimit}
 use Rattle.field.specs.declared.Form.{Form}
 use Rattle.line.specs.declared.Marks.{Marks}
@@ -71,10 +72,26 @@ lineFault n m l =
     (fault (not (every lineByte l)) 10
     (formFault n m (formOf (fields l)) (bodyOf (fields l)))))
 
--- the header: `sheet`, `1`
-abbrev pub header : List ℕ
-header = bytes "sheet" ++ 9 ∷ bytes "1"
+-- the header of an edition
+abbrev pub header : List ℕ → List ℕ
+header edition = bytes "sheet" ++ 9 ∷ edition
 
--- what is wrong with line 1
-unfoldable pub headerFault : List ℕ → ℕ
-headerFault l = fault (ltb lineLimit (length l)) 10 (fault (not (every lineByte l)) 10 (fault (not (same l header)) 11 0))
+-- line 1 is the header of edition 1
+abbrev pub isFirst : List ℕ → Bool
+isFirst l = same l (header (bytes "1"))
+
+-- line 1 is the header of edition 2
+abbrev pub isSecond : List ℕ → Bool
+isSecond l = same l (header (bytes "2"))
+
+-- line 1 is a header that a store with item rows of W words takes: edition 2 needs the larger store
+abbrev pub headed : ℕ → List ℕ → Bool
+headed W l = isFirst l || (isSecond l && leb large W)
+
+-- what is wrong with line 1, with such a store
+unfoldable pub headerFault : ℕ → List ℕ → ℕ
+headerFault W l = fault (ltb lineLimit (length l)) 10 (fault (not (every lineByte l)) 10 (fault (not (headed W l)) 11 0))
+
+-- the most items of a sheet, by its line 1: those of its edition
+unfoldable pub roomBy : List ℕ → ℕ
+roomBy l = cond (isSecond l) (itemLimit large) (itemLimit small)

@@ -84,7 +84,7 @@ fn new_item(sheet: &[u8], names: &[u32], counts: Counts, f: &[u8]) -> usize
     new_name(
         field::names::item(sheet, names, counts, f),
         counts.items,
-        Store::ITEMS,
+        field::names::room(names),
     )
 }
 

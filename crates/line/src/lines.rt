@@ -7,7 +7,7 @@ ghost use Rattle.text.specs.Name.{lineByte};
 ghost use Rattle.text.specs.Split.{fields};
 ghost use Rattle.rule.specs.Form.{nodeLimit};
 ghost use Rattle.field.specs.Names.{fault};
-ghost use Rattle.line.specs.Fault.{ended as endedBy, fieldsFault, formFault, full as fullBy, headerFault, lineFault, lineLimit, unknown as unknownBy};
+ghost use Rattle.line.specs.Fault.{ended as endedBy, fieldsFault, formFault, full as fullBy, headed as headedBy, headerFault, isSecond, lineFault, lineLimit, roomBy, unknown as unknownBy};
 ghost use Rattle.field.specs.own.Table.{Tidy, namesOf, tableOf};
 ghost use Rattle.field.specs.Words.{bodyOf, formOf};
 ghost use Rattle.field.specs.own.Line.{Looked, wordsOf};
@@ -17,6 +17,7 @@ use field::Form;
 use field::Section;
 use rule::Rule;
 use store::Counts;
+use store::Store;
 
 // Whether the section has ended.
 fn ended(m: Marks, s: Section) -> bool
@@ -153,9 +154,39 @@ pub fn line_fault(
     form_fault(sheet, names, counts, m, line, ends)
 }
 
-// What is wrong with line 1.
-pub fn header_fault(line: &[u8]) -> usize
-    ensures { λ r. ⌜ r ≡ headerFault (now (line .entry)) ⌝ }
+// Whether line 1 is the header of edition 2.
+fn second(line: &[u8]) -> bool
+    ensures { λ r. ⌜ r ≡ isSecond (now (line .entry)) ⌝ }
+{
+    text::part::same(line, b"sheet\t2")
+}
+
+// Whether line 1 is a header that a store with item rows of so many words takes.
+fn headed(width: usize, line: &[u8]) -> bool
+    ensures { λ r. ⌜ r ≡ headedBy width (now (line .entry)) ⌝ }
+{
+    if text::part::same(line, b"sheet\t1") {
+        return true;
+    }
+    if second(line) {
+        return Store::LARGE <= width;
+    }
+    false
+}
+
+// The most items of a sheet, by its line 1: those of its edition.
+pub fn item_room(line: &[u8]) -> usize
+    ensures { λ r. ⌜ r ≡ roomBy (now (line .entry)) ⌝ }
+{
+    if second(line) {
+        return Store::LARGE_ITEMS;
+    }
+    Store::ITEMS
+}
+
+// What is wrong with line 1, with a store with item rows of so many words.
+pub fn header_fault(width: usize, line: &[u8]) -> usize
+    ensures { λ r. ⌜ r ≡ headerFault width (now (line .entry)) ⌝ }
 {
     if Sheet::LINE < line.len() {
         return 10;
@@ -163,7 +194,7 @@ pub fn header_fault(line: &[u8]) -> usize
     if !text::name::line_bytes(line) {
         return 10;
     }
-    if !text::part::same(line, b"sheet\t1") {
+    if !headed(width, line) {
         return 11;
     }
     0

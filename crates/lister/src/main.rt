@@ -1,5 +1,6 @@
-// The program `lister`, for the tests: prints what the entry points give that write into a list of records. It reads on standard input a byte that is not 0 if the lent store is to be one word
-// short, a few rules by number, and a sheet. A rule is a byte a number: how many items more are declared than the sheet does, then its words.
+// The program `lister`, for the tests: prints what the entry points give that write into a list of records. It reads on standard input a byte that says which store is lent, a few rules by number,
+// and a sheet. The store is the smaller by 0, the smaller without its last word by 1, the larger by 2, and the larger without its last word by any other. A rule is a byte a number: how many items
+// more are declared than the sheet does, then its words.
 ghost use mathlib.Core.Path.{_≡_};
 ghost use lib.ListN.{length};
 use judge::RuleRefusal;
@@ -184,7 +185,7 @@ fn words_of(given: &[u8]) -> [u64; Spelled::RULE]
 // The declared counts with so many items more.
 fn with_more(declared: Counts, n: u8) -> Counts {
     let mut items = declared.items;
-    if items <= Store::ITEMS {
+    if items <= Store::LARGE_ITEMS {
         items += n as usize;
     }
     Counts {
@@ -229,32 +230,58 @@ fn print_listed(listed: Listed) {
     records(list);
 }
 
-// Prints what reading the sheet gives with a store that is one word short.
-fn print_short(sheet: &[u8]) {
-    let mut words = [GARBAGE; Store::WORDS - 1];
-    print_listed(read_list(sheet, &mut words, marked()));
-}
-
-// Prints what reading the sheet gives, and of an accepted one what its store gives for the rules.
-fn print_whole(input: &[u8], sheet: &[u8]) {
-    let mut words = [GARBAGE; Store::WORDS];
-    let listed = read_list(sheet, &mut words, marked());
+// Prints what reading the sheet into the lent store gives, and of an accepted one what its store gives for the rules.
+fn print_in(input: &[u8], words: &mut [u64]) {
+    let sheet = text::part::part(input, HEAD, input.len());
+    let listed = read_list(sheet, words, marked());
     let answer = listed.answer;
     print_listed(listed);
     match answer {
-        Reading::Accepted(counts, _, _) => judge_rules(input, &words, counts),
+        Reading::Accepted(counts, _, _) => judge_rules(input, words, counts),
         Reading::Refused(_, _) => {}
     }
 }
 
+// Prints it with the smaller store.
+fn print_small(input: &[u8]) {
+    let mut words = [GARBAGE; Store::WORDS];
+    print_in(input, &mut words);
+}
+
+// Prints it with the smaller store without its last word.
+fn print_small_short(input: &[u8]) {
+    let mut words = [GARBAGE; Store::WORDS - 1];
+    print_in(input, &mut words);
+}
+
+// Prints it with the larger store.
+fn print_large(input: &[u8]) {
+    let mut words = [GARBAGE; Store::LARGE_WORDS];
+    print_in(input, &mut words);
+}
+
+// Prints it with the larger store without its last word.
+fn print_large_short(input: &[u8]) {
+    let mut words = [GARBAGE; Store::LARGE_WORDS - 1];
+    print_in(input, &mut words);
+}
+
 // Prints what is asked for.
 fn print_all(input: &[u8]) {
-    let sheet = text::part::part(input, HEAD, input.len());
-    if byte_at(input, 0) != 0 {
-        print_short(sheet);
+    let store = byte_at(input, 0);
+    if store == 0 {
+        print_small(input);
         return;
     }
-    print_whole(input, sheet);
+    if store == 1 {
+        print_small_short(input);
+        return;
+    }
+    if store == 2 {
+        print_large(input);
+        return;
+    }
+    print_large_short(input);
 }
 
 // Reads the input, and prints.

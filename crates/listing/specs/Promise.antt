@@ -3,7 +3,7 @@ use mathlib.Core.Path.{_≡_}
 use mathlib.Core.List.{List}
 use Prim.Native.Nat.{ℕ}
 use lib.ListN.{length}
-use Rattle.store.specs.Layout.{size, width}
+use Rattle.store.specs.Layout.{size, widthOf}
 use Rattle.rule.specs.declared.Finding.{Finding}
 use Rattle.judge.specs.Promise.{filled}
 use Rattle.sheet.specs.declared.Reading.{Reading}
@@ -17,6 +17,6 @@ use Rattle.sheet.specs.Said.Outcome.{accepted as acceptedSheet}
 -- are written as far as the list reaches, what is past them is as it was, and the total counts all
 pub data ReadsInto (sheet s t : List ℕ) (before after : List Finding) : Reading → Type 0 where
   refused : {n k : ℕ} → Reads sheet s t (Refused n k) → after ≡ before → ReadsInto sheet s t before after (Refused n k)
-  accepted : {x : Said} {fs : List Finding} → length s ≡ size width → outcome sheet ≡ acceptedSheet x → Held x t → FindingsIn x t fs
+  accepted : {x : Said} {fs : List Finding} → length s ≡ size (widthOf s) → outcome (widthOf s) sheet ≡ acceptedSheet x → Held (widthOf s) x t → FindingsIn (widthOf s) x t fs
       → after ≡ filled fs before
       → ReadsInto sheet s t before after (Accepted (countsOf (x .names)) (length (x .rules)) (length fs))

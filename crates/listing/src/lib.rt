@@ -2,7 +2,7 @@
 ghost use Prim.Native.Nat.{_<_, _≤_};
 ghost use lib.ListN.{length};
 ghost use Rattle.judge.specs.own.Search.{Met, Ready};
-ghost use Rattle.store.specs.Layout.{width};
+ghost use Rattle.store.specs.Layout.{widthOf};
 ghost use Rattle.judge.specs.Promise.{Lists};
 ghost use Rattle.trail.specs.own.Trail.{Going, Went};
 ghost use Rattle.listing.specs.own.Listing.{Written};
@@ -38,7 +38,7 @@ pub fn findings(
     rule: Rule,
     list: &mut [Finding],
 ) -> Total
-    ensures { λ r. ⌜ Lists width counts number rule (now (words .entry)) (now (list .entry)) (now (list .exit)) r ⌝ }
+    ensures { λ r. ⌜ Lists (widthOf (now (words .entry))) counts number rule (now (words .entry)) (now (list .entry)) (now (list .exit)) r ⌝ }
 {
     let p = judge::seek::prepare(words, counts, number, rule, list.len());
     let n = p.write;
@@ -68,11 +68,11 @@ fn write_all(
     }
 }
 
-// Reads a sheet into the lent store, and the findings of its rules into the lent list, as far as it reaches.
+// Reads a sheet into the lent store, and the findings of its rules into the lent list, as far as it reaches. The numbers for names suffice with either store.
 pub fn read(sheet: &[u8], words: &mut [u64], list: &mut [Finding]) -> Reading
     ensures { λ r. ⌜ ReadsInto (now (sheet .entry)) (now (words .entry)) (now (words .exit)) (now (list .entry)) (now (list .exit)) r ⌝ }
 {
-    let mut names = [0u32; Table::NUMBERS];
+    let mut names = [0u32; Table::LARGE_NUMBERS];
     let p = trail::open(sheet, words, &mut names, list.len());
     let n = p.write;
     let c = p.trail;

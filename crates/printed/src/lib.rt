@@ -7,6 +7,7 @@ ghost use Rattle.judge.specs.own.Search.{Ready};
 ghost use Rattle.text.specs.Text.{decimal, Wrote};
 ghost use Rattle.sheet.specs.Promise.{refusedText, secondText, tabbed, totalText};
 ghost use Rattle.field.specs.own.Table.{Tidy, namesOf, tableOf};
+ghost use Rattle.store.specs.own.Laid.{Laid};
 ghost use Rattle.printed.specs.own.Lines.{RuleLines, Tallied, Tallying, lineText};
 use field::Table;
 use judge::Search;
@@ -15,6 +16,7 @@ use rule::Rule;
 use rule::Second;
 use store::Counts;
 use store::Item;
+use store::Layout;
 
 // How far the findings are printed: the place in the room, how many more may be printed, and how many there are so far in all.
 pub struct Tally {
@@ -156,13 +158,13 @@ pub fn judge(
     number: usize,
     u: Rule,
     words: &[u64],
+    layout: Layout,
     room: &mut [u8],
     b: Tally,
 ) -> Tally
-    requires { ⌜ Tidy (now sheet) (tableOf (now names) counts) × Tallying (now words) counts b ⌝ }
-    ensures { λ r. ⌜ Tallied (now (words .entry)) counts number u (namesOf (now (sheet .entry)) (tableOf (now (names .entry)) counts)) line (now (room .entry)) b (now (room .exit)) r ⌝ }
+    requires { ⌜ Tidy (now sheet) (tableOf (now names) counts) × Tallying (layout .width) (now words) counts b × Laid layout (now words) ⌝ }
+    ensures { λ r. ⌜ Tallied (layout .width) (now (words .entry)) counts number u (namesOf (now (sheet .entry)) (tableOf (now (names .entry)) counts)) line (now (room .entry)) b (now (room .exit)) r ⌝ }
 {
-    let layout = store::size::layout();
     let p = judge::seek::start(words, layout, counts, number, u, b.left);
     let n = p.write;
     let first = p.search;

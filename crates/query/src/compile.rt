@@ -1,7 +1,7 @@
 // Compiling a rule by number to a query.
 ghost use mathlib.Core.Path.{_≡_};
 ghost use mathlib.Core.List.{[]};
-ghost use Rattle.store.specs.Layout.{width};
+ghost use Rattle.store.specs.Layout.{large};
 ghost use Rattle.rule.specs.declared.Head.the-variants as heads;
 ghost use Rattle.body.specs.Translation.{answersOf};
 ghost use Rattle.query.specs.Promise.{Compiles};
@@ -17,6 +17,7 @@ use rule::Rule;
 use rule::Slot;
 use store::Counts;
 use store::Item;
+use store::Store;
 
 // The number of answer variables of a rule's query.
 fn answers_of(head: Head) -> usize
@@ -163,9 +164,9 @@ fn fill(head: Head, nodes: [Slot; Rule::NODES], room: &mut [u16])
 impl Query {
     // Compiles a rule: writes its query from the start of the room, and says how long it is and how many answer variables it has.
     pub fn compile(counts: Counts, rule: Rule, room: &mut [u16]) -> Outcome
-        ensures { λ r. ⌜ Compiles width counts rule (now (room .entry)) (now (room .exit)) r ⌝ }
+        ensures { λ r. ⌜ Compiles large counts rule (now (room .entry)) (now (room .exit)) r ⌝ }
     {
-        if !store::size::fits(counts) {
+        if !store::size::fits(Store::LARGE, counts) {
             return Outcome::Refused(QueryRefusal::Size);
         }
         if !form::well_formed(rule) {

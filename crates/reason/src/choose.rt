@@ -1,18 +1,19 @@
 // The search for a reason of a fact: the statement from which steps lead to it, the steps above, and the steps of "same".
 ghost use Rattle.reason.specs.own.Aim.{Above, Aimed, Beside, Fresh, Joinable, Joined, Reaches, Sighted, Starts};
+ghost use Rattle.reason.specs.own.Promise.{Lent};
 use crate::Fact;
 use crate::Kind;
 use crate::Lines;
 use store::Counts;
 
 // The place of the first statement from which steps lead to the fact g.
-fn find(codes: &[u32], g: Fact, same: &[u64; Lines::TABLE], above: &[u64; Lines::TABLE]) -> usize
-    requires { ⌜ Sighted g (now codes) (now same) (now above) ⌝ }
+fn find(codes: &[u32], g: Fact, same: &[u64], width: usize, above: &[u64]) -> usize
+    requires { ⌜ Sighted width g (now codes) (now same) (now above) ⌝ }
     ensures { λ r. ⌜ Starts g (now (codes .entry)) r ⌝ }
 {
     let mut i = 0;
     while i < codes.len() {
-        if crate::facts::meets(same, above, crate::facts::fact_at(codes, i), g) {
+        if crate::facts::meets(same, width, above, crate::facts::fact_at(codes, i), g) {
             return i;
         }
         i += 1;
@@ -21,18 +22,32 @@ fn find(codes: &[u32], g: Fact, same: &[u64; Lines::TABLE], above: &[u64; Lines:
 }
 
 // Marks the steps above by which the fact g is reached; says from which statement on.
-fn mark_above(codes: &[u32], counts: Counts, g: Fact, marks: &mut [u64; Lines::WORDS]) -> usize
-    requires { ⌜ Aimed counts g (now codes) × Fresh (now marks) ⌝ }
+fn mark_above(
+    codes: &[u32],
+    counts: Counts,
+    g: Fact,
+    same: &mut [u64],
+    width: usize,
+    marks: &mut [u64; Lines::WORDS],
+) -> usize
+    requires { ⌜ Aimed width counts g (now codes) × Lent width (now same) × Fresh (now marks) ⌝ }
     ensures { λ r. ⌜ Above g (now (codes .entry)) (now (marks .exit)) r ⌝ }
 {
     let kind = crate::facts::kind_above(g);
-    let mut same = [0u64; Lines::TABLE];
-    let mut above = [0u64; Lines::TABLE];
-    crate::reach::fill(&mut same, codes, Kind::Same, counts.items);
-    crate::reach::fill(&mut above, codes, kind, Lines::ABOVE);
-    let n = find(codes, g, &same, &above);
-    let goal = crate::facts::above_goal(&same, crate::facts::fact_at(codes, n), g);
-    crate::seek::narrow(codes, kind, Lines::ABOVE, goal, marks);
+    let mut above = [0u64; Lines::ABOVE_WORDS];
+    crate::reach::fill(same, width, codes, Kind::Same, counts.items);
+    crate::reach::fill(&mut above, Lines::ABOVE_WIDTH, codes, kind, Lines::ABOVE);
+    let n = find(codes, g, same, width, &above);
+    let goal = crate::facts::above_goal(same, width, crate::facts::fact_at(codes, n), g);
+    crate::seek::narrow(
+        codes,
+        kind,
+        Lines::ABOVE,
+        goal,
+        &mut above,
+        Lines::ABOVE_WIDTH,
+        marks,
+    );
     n
 }
 
@@ -43,21 +58,25 @@ fn mark_same(
     g: Fact,
     n: usize,
     up: &[u64; Lines::WORDS],
+    same: &mut [u64],
+    width: usize,
     marks: &mut [u64; Lines::WORDS],
 )
-    requires { ⌜ Aimed counts g (now codes) × Above g (now codes) (now up) n × Fresh (now marks) ⌝ }
+    requires { ⌜ Aimed width counts g (now codes) × Above g (now codes) (now up) n × Lent width (now same) × Fresh (now marks) ⌝ }
     ensures { λ _. ⌜ Beside g (now (codes .entry)) (now (up .entry)) (now (marks .exit)) n ⌝ }
 {
-    let mut above = [0u64; Lines::TABLE];
+    let mut above = [0u64; Lines::ABOVE_WORDS];
+    let kind = crate::facts::kind_above(g);
     crate::reach::build(
         &mut above,
+        Lines::ABOVE_WIDTH,
         codes,
-        crate::facts::kind_above(g),
+        kind,
         Lines::ABOVE,
         up,
     );
     let goal = crate::facts::same_goal(&above, crate::facts::fact_at(codes, n), g);
-    crate::seek::narrow(codes, Kind::Same, counts.items, goal, marks);
+    crate::seek::narrow(codes, Kind::Same, counts.items, goal, same, width, marks);
 }
 
 // Marks what `more` marks too, and the place n.
@@ -70,12 +89,19 @@ fn join(marks: &mut [u64; Lines::WORDS], more: &[u64; Lines::WORDS], n: usize)
 }
 
 // Marks a reason for the fact g.
-pub fn by_fact(codes: &[u32], counts: Counts, g: Fact, marks: &mut [u64; Lines::WORDS])
-    requires { ⌜ Aimed counts g (now codes) × Fresh (now marks) ⌝ }
+pub fn by_fact(
+    codes: &[u32],
+    counts: Counts,
+    g: Fact,
+    same: &mut [u64],
+    width: usize,
+    marks: &mut [u64; Lines::WORDS],
+)
+    requires { ⌜ Aimed width counts g (now codes) × Lent width (now same) × Fresh (now marks) ⌝ }
     ensures { λ _. ⌜ Reaches g (now (codes .entry)) (now (marks .exit)) ⌝ }
 {
-    let n = mark_above(codes, counts, g, marks);
+    let n = mark_above(codes, counts, g, same, width, marks);
     let mut more = [0u64; Lines::WORDS];
-    mark_same(codes, counts, g, n, marks, &mut more);
+    mark_same(codes, counts, g, n, marks, same, width, &mut more);
     join(marks, &more, n);
 }

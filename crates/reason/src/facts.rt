@@ -3,11 +3,12 @@ ghost use mathlib.Core.Path.{_≡_};
 ghost use Prim.Native.Nat.{_<_};
 ghost use lib.ListN.{length};
 ghost use Rattle.store.specs.Cell.{cellOf};
-ghost use Rattle.store.specs.Layout.{roleLimit};
+ghost use Rattle.store.specs.Layout.{conceptLimit, itemLimit, roleLimit};
 ghost use Rattle.reason.specs.own.Aim as aim;
 ghost use Rattle.reason.specs.own.Aim.{Near, Small};
 ghost use Rattle.reason.specs.own.Fact as spec;
-ghost use Rattle.reason.specs.own.Fact.{factOf, kindAbove};
+ghost use Rattle.reason.specs.own.Fact.{aboveWidth, factOf, kindAbove};
+ghost use Rattle.reason.specs.own.Promise.{Lent};
 ghost use Rattle.reason.specs.own.Walk.{node};
 use crate::Fact;
 use crate::Goal;
@@ -96,7 +97,7 @@ fn straight(f: Fact, g: Fact) -> Route
 
 // The way from one link to another by the inverse of the other's role.
 fn turned(f: Fact, g: Fact) -> Route
-    requires { ⌜ Small g ⌝ }
+    requires { ⌜ g .above < conceptLimit ⌝ }
     ensures { λ r. ⌜ r ≡ spec.turned f g ⌝ }
 {
     Route {
@@ -111,12 +112,12 @@ fn turned(f: Fact, g: Fact) -> Route
 }
 
 // The way above of a route, by the table of the steps of "same".
-fn above_way(t: &[u64; Lines::TABLE], r: Route) -> Way
-    requires { ⌜ Near r ⌝ }
-    ensures { λ w. ⌜ w ≡ aim.aboveBy (now (t .entry)) r ⌝ }
+fn above_way(t: &[u64], width: usize, r: Route) -> Way
+    requires { ⌜ Lent width (now t) × Near width r ⌝ }
+    ensures { λ w. ⌜ w ≡ aim.aboveBy width (now (t .entry)) r ⌝ }
 {
-    let first = crate::reach::leads(t, r.a, r.b);
-    let second = crate::reach::leads(t, r.c, r.d);
+    let first = crate::reach::leads(t, width, r.a, r.b);
+    let second = crate::reach::leads(t, width, r.c, r.d);
     Way {
         on: row::bit::both(r.on, row::bit::both(first, second)),
         a: r.from,
@@ -127,12 +128,13 @@ fn above_way(t: &[u64; Lines::TABLE], r: Route) -> Way
 }
 
 // The way of "same" of a route, by the table of the steps above.
-fn same_way(t: &[u64; Lines::TABLE], r: Route) -> Way
-    requires { ⌜ Near r ⌝ }
+fn same_way(t: &[u64], r: Route) -> Way
+    requires { ⌜ Lent aboveWidth (now t) × (r .from < itemLimit aboveWidth) × (r .to < itemLimit aboveWidth) ⌝ }
     ensures { λ w. ⌜ w ≡ aim.sameBy (now (t .entry)) r ⌝ }
 {
+    let w = Lines::ABOVE_WIDTH;
     Way {
-        on: row::bit::both(r.on, crate::reach::leads(t, r.from, r.to)),
+        on: row::bit::both(r.on, crate::reach::leads(t, w, r.from, r.to)),
         a: r.a,
         b: r.b,
         c: r.c,
@@ -141,18 +143,18 @@ fn same_way(t: &[u64; Lines::TABLE], r: Route) -> Way
 }
 
 // The steps above that have to lead from one fact to another, by the table of the steps of "same".
-pub fn above_goal(t: &[u64; Lines::TABLE], f: Fact, g: Fact) -> Goal
-    requires { ⌜ Small f × Small g ⌝ }
-    ensures { λ r. ⌜ r ≡ aim.aboveGoal (now (t .entry)) f g ⌝ }
+pub fn above_goal(t: &[u64], width: usize, f: Fact, g: Fact) -> Goal
+    requires { ⌜ Lent width (now t) × Small width f × Small width g ⌝ }
+    ensures { λ r. ⌜ r ≡ aim.aboveGoal width (now (t .entry)) f g ⌝ }
 {
-    let one = above_way(t, straight(f, g));
-    let other = above_way(t, turned(f, g));
+    let one = above_way(t, width, straight(f, g));
+    let other = above_way(t, width, turned(f, g));
     Goal { one, other }
 }
 
 // The steps of "same" that have to lead from one fact to another, by the table of the steps above.
-pub fn same_goal(t: &[u64; Lines::TABLE], f: Fact, g: Fact) -> Goal
-    requires { ⌜ Small f × Small g ⌝ }
+pub fn same_goal(t: &[u64], f: Fact, g: Fact) -> Goal
+    requires { ⌜ Lent aboveWidth (now t) × (f .above < conceptLimit) × (g .above < conceptLimit) ⌝ }
     ensures { λ r. ⌜ r ≡ aim.sameGoal (now (t .entry)) f g ⌝ }
 {
     let one = same_way(t, straight(f, g));
@@ -161,20 +163,23 @@ pub fn same_goal(t: &[u64; Lines::TABLE], f: Fact, g: Fact) -> Goal
 }
 
 // Whether steps lead along a route.
-fn opens(same: &[u64; Lines::TABLE], above: &[u64; Lines::TABLE], r: Route) -> bool
-    requires { ⌜ Near r ⌝ }
-    ensures { λ b. ⌜ b ≡ aim.opensb (now (same .entry)) (now (above .entry)) r ⌝ }
+fn opens(same: &[u64], width: usize, above: &[u64], r: Route) -> bool
+    requires { ⌜ Lent width (now same) × Lent aboveWidth (now above) × Near width r ⌝ }
+    ensures { λ b. ⌜ b ≡ aim.opensb width (now (same .entry)) (now (above .entry)) r ⌝ }
 {
-    let w = above_way(same, r);
-    row::bit::both(w.on, crate::reach::leads(above, r.from, r.to))
+    let w = above_way(same, width, r);
+    row::bit::both(
+        w.on,
+        crate::reach::leads(above, Lines::ABOVE_WIDTH, r.from, r.to),
+    )
 }
 
 // Whether steps lead from one fact to another.
-pub fn meets(same: &[u64; Lines::TABLE], above: &[u64; Lines::TABLE], f: Fact, g: Fact) -> bool
-    requires { ⌜ Small f × Small g ⌝ }
-    ensures { λ b. ⌜ b ≡ aim.meetsb (now (same .entry)) (now (above .entry)) f g ⌝ }
+pub fn meets(same: &[u64], width: usize, above: &[u64], f: Fact, g: Fact) -> bool
+    requires { ⌜ Lent width (now same) × Lent aboveWidth (now above) × Small width f × Small width g ⌝ }
+    ensures { λ b. ⌜ b ≡ aim.meetsb width (now (same .entry)) (now (above .entry)) f g ⌝ }
 {
-    let one = opens(same, above, straight(f, g));
-    let other = opens(same, above, turned(f, g));
+    let one = opens(same, width, above, straight(f, g));
+    let other = opens(same, width, above, turned(f, g));
     row::bit::either(one, other)
 }

@@ -21,10 +21,12 @@ impl Lines {
     pub const MOST: usize = 6592;
     // The words of marks on them, a bit for each.
     pub const WORDS: usize = 103;
-    // The words of a table of steps.
-    pub const TABLE: usize = 256;
     // The places between which steps lead from concept to concept, or from role to role.
     pub const ABOVE: usize = 48;
+    // The words of a row in a table of such steps.
+    pub const ABOVE_WIDTH: usize = 1;
+    // The words of such a table.
+    pub const ABOVE_WORDS: usize = 64;
 }
 
 // What steps are about: items that are the same, concepts that are under others, roles that are under others or their inverses.
@@ -84,9 +86,11 @@ fn by_steps(
     nodes: usize,
     x: usize,
     y: usize,
+    t: &mut [u64],
+    width: usize,
     marks: &mut [u64; Lines::WORDS],
 )
-    requires { ⌜ Wanted kind nodes (plainGoal x y) (now codes) (now marks) ⌝ }
+    requires { ⌜ Wanted width kind nodes (plainGoal x y) (now codes) (now t) (now marks) ⌝ }
     ensures { λ _. ⌜ Narrowest kind (plainGoal x y) (now (codes .entry)) (now (marks .exit)) ⌝ }
 {
     let one = Way {
@@ -103,36 +107,42 @@ fn by_steps(
         c: x,
         d: y,
     };
-    crate::seek::narrow(codes, kind, nodes, Goal { one, other }, marks);
+    crate::seek::narrow(codes, kind, nodes, Goal { one, other }, t, width, marks);
 }
 
-// Marks a reason for the cell that `goal` states: statements from which it follows, and from no part of them with one taken out.
-pub fn explain(codes: &[u32], counts: Counts, goal: Statement, marks: &mut [u64; Lines::WORDS])
-    requires { ⌜ Sought counts (cellOf goal) (now codes) (now marks) ⌝ }
+// Marks a reason for the cell that `goal` states: statements from which it follows, and from no part of them with one taken out. The words lent have room for a row of `width` words for each item.
+pub fn explain(
+    codes: &[u32],
+    counts: Counts,
+    goal: Statement,
+    table: &mut [u64],
+    width: usize,
+    marks: &mut [u64; Lines::WORDS],
+)
+    requires { ⌜ Sought width counts (cellOf goal) (now codes) (now table) (now marks) ⌝ }
     ensures { λ _. ⌜ Reasoned counts (cellOf goal) (now (codes .entry)) (now (marks .exit)) ⌝ }
 {
+    let items = counts.items;
     let above = Lines::ABOVE;
+    let one = Lines::ABOVE_WIDTH;
     match goal {
-        Statement::Same(a, b) => by_steps(codes, Kind::Same, counts.items, a.0, b.0, marks),
-        Statement::Under(a, b) => by_steps(codes, Kind::Under, above, a.0, b.0, marks),
-        Statement::RoleUnder(r, u, s) => {
-            by_steps(
-                codes,
-                Kind::Role,
-                above,
-                r.0,
-                crate::facts::role_place(u, s.0),
-                marks,
-            )
+        Statement::Same(a, b) => {
+            by_steps(codes, Kind::Same, items, a.0, b.0, table, width, marks)
         }
-        Statement::In(_, _) => crate::choose::by_fact(
-            codes,
-            counts,
-            crate::facts::stated(goal),
-            marks,
-        ),
+        Statement::Under(a, b) => {
+            by_steps(codes, Kind::Under, above, a.0, b.0, table, one, marks)
+        }
+        Statement::RoleUnder(r, u, s) => {
+            let y = crate::facts::role_place(u, s.0);
+            by_steps(codes, Kind::Role, above, r.0, y, table, one, marks)
+        }
+        Statement::In(_, _) => {
+            let g = crate::facts::stated(goal);
+            crate::choose::by_fact(codes, counts, g, table, width, marks)
+        }
         Statement::Link(_, _, _) => {
-            crate::choose::by_fact(codes, counts, crate::facts::stated(goal), marks)
+            let g = crate::facts::stated(goal);
+            crate::choose::by_fact(codes, counts, g, table, width, marks)
         }
     }
 }

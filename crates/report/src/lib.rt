@@ -5,6 +5,8 @@ pub mod page;
 pub struct Report {}
 
 impl Report {
-    // Bytes that suffice for the text of any sheet.
+    // Bytes that suffice for the text of any sheet, with the smaller store and with the larger.
     pub const BYTES: usize = 12814;
+
+    pub const LARGE_BYTES: usize = 12815;
 }

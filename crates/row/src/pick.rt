@@ -4,7 +4,7 @@ ghost use lib.ListN.{length};
 ghost use Rattle.logic.specs.Number.{Number};
 ghost use Rattle.logic.specs.own.Decides.{Decides};
 ghost use Rattle.row.specs.own.Bit.{LowestBit};
-ghost use Rattle.row.specs.own.Pick.{AllBelow, Alone, Empty, InBoth, Least, Marked, Met, Next, Shared, Without, room};
+ghost use Rattle.row.specs.own.Pick.{AllBelow, Empty, InBoth, Least, Marked, Met, Next, Shared, Without, room};
 ghost use Rattle.row.specs.own.Row.{RowHas};
 use crate::ROOM;
 use crate::Row;
@@ -29,16 +29,6 @@ pub fn below(n: usize) -> Row
         left = crate::number::after_word(left);
         h += 1;
     }
-    r
-}
-
-// A row with the number x alone.
-pub fn alone(x: usize) -> Row
-    requires { ⌜ x < 64 * room ⌝ }
-    ensures { λ r. ⌜ Alone x r ⌝ }
-{
-    let mut r = [0u64; ROOM];
-    r[x / 64] = crate::bit::one_bit((x % 64) as u64);
     r
 }
 

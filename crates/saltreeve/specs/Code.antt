@@ -5,10 +5,9 @@ use Prim.Native.Nat.{ℕ}
 use lib.IntN.{ℤ}
 use Rattle.store.specs.declared.Counts.{Counts}
 use Rattle.closure.specs.declared.Answer.{Answer}
-use Rattle.store.specs.Cell.{Cell}
-use Rattle.store.specs.Layout.{width}
-use Rattle.closure.specs.Promise.{Makes, Adds}
-use Rattle.signed.specs.Codes.{codeOf}
+use Rattle.store.specs.Layout.{widthOf}
+use Rattle.closure.specs.Promise.{Makes}
+use Rattle.batch.specs.Codes.{codeOf}
 
 -- the declared counts
 abbrev pub counts : ℕ → ℕ → ℕ → Counts
@@ -17,11 +16,5 @@ counts items concepts roles = record { items = items; concepts = concepts; roles
 -- making a fresh store of the words s leaves t and gives r
 pub record FreshCode (n : Counts) (s t : List ℕ) (r : ℤ) : Type 0 where
   pub answer : Answer
-  pub makes : Makes width n s t answer
-  pub code : r ≡ codeOf answer
-
--- adding the cell c to the words s leaves t and gives r
-pub record AddCode (n : Counts) (c : Cell) (s t : List ℕ) (r : ℤ) : Type 0 where
-  pub answer : Answer
-  pub adds : Adds width n c s t answer
+  pub makes : Makes (widthOf s) n s t answer
   pub code : r ≡ codeOf answer

@@ -8,13 +8,14 @@ use Rattle.why.specs.declared.Explained.{Explained}
 use Rattle.finding.specs.declared.FindingExplained.{FindingExplained}
 use Rattle.finding.specs.Finding.{ExplainsFinding}
 use Rattle.why.specs.Promise.{Explains}
+use Rattle.store.specs.Layout.{small}
 use Rattle.answer.specs.Promise.{Answers}
 use Rattle.handover.specs.Room.{InRoom}
 use Rattle.signed.specs.Codes.{explainedCode, findingCode}
 
--- the room that was lent becomes exit
+-- the room that was lent becomes exit; the sheet is read with the smaller store
 abbrev pub Whys : List ℕ → List ℕ → List ℕ → List ℕ → ℤ → Type 0
-Whys sheet question room exit r = InRoom (Answers sheet question) room exit r
+Whys sheet question room exit r = InRoom (Answers small sheet question) room exit r
 
 -- asking why a cell is true gives r
 pub record ExplainCode (sheet s t : List ℕ) (c : Cell) (before after : List ℕ) (r : ℤ) : Type 0 where

@@ -27,7 +27,7 @@ pub extern "C" fn saltreeve_check(sheet: &[u8], room: &mut [u8]) -> i64
 fn check_in_aside(sheet: &[u8], words: &mut [u64], room: &mut [u8]) -> i64
     ensures { λ r. ⌜ ChecksIn (now (sheet .entry)) (now (words .entry)) (now (words .exit)) (now (room .entry)) (now (room .exit)) r ⌝ }
 {
-    let mut own = [0u8; Report::BYTES];
+    let mut own = [0u8; Report::LARGE_BYTES];
     let n = report::page::page_in(sheet, words, &mut own);
     handover::hand(&own, n, room)
 }
@@ -37,7 +37,7 @@ fn check_in_aside(sheet: &[u8], words: &mut [u64], room: &mut [u8]) -> i64
 pub extern "C" fn saltreeve_check_in(sheet: &[u8], words: &mut [u64], room: &mut [u8]) -> i64
     ensures { λ r. ⌜ ChecksIn (now (sheet .entry)) (now (words .entry)) (now (words .exit)) (now (room .entry)) (now (room .exit)) r ⌝ }
 {
-    if Report::BYTES <= room.len() {
+    if report::page::most(words) <= room.len() {
         let n = report::page::page_in(sheet, words, room);
         return n as i64;
     }

@@ -3,11 +3,13 @@ ghost use mathlib.Core.Bool.{not};
 ghost use lib.Dec.{eqb};
 ghost use Rattle.store.specs.Cell.{cellOf};
 ghost use Rattle.store.specs.Cell.Cell.{Same, Under, RoleUnder, In, Link};
-ghost use Rattle.saltreeve.specs.Code.{AddCode, FreshCode, counts};
+ghost use Rattle.batch.specs.Codes.{AddCode};
+ghost use Rattle.saltreeve.specs.Code.{FreshCode, counts};
 
 pub mod checks;
 pub mod reasons;
 pub mod rules;
+pub mod stores;
 
 use store::Concept;
 use store::Counts;
@@ -19,7 +21,7 @@ use store::Statement;
 fn add(words: &mut [u64], n: Counts, s: Statement) -> i64
     ensures { λ r. ⌜ AddCode n (cellOf s) (now (words .entry)) (now (words .exit)) r ⌝ }
 {
-    signed::code(closure::add(words, n, s))
+    batch::number::code(closure::add(words, n, s))
 }
 
 // Makes the lent words a fresh store.
@@ -40,7 +42,7 @@ pub extern "C" fn saltreeve_fresh(
             roles,
         },
     );
-    signed::code(a)
+    batch::number::code(a)
 }
 
 // Adds "a is the same as b".

@@ -1,5 +1,5 @@
 // Why a cell is true or an item a finding, under C names.
-ghost use Rattle.signed.specs.Codes.{cellOfKind};
+ghost use Rattle.batch.specs.Codes.{cellOfKind};
 ghost use Rattle.saltreeve.specs.Why.{ExplainCode, FindingCode, Whys};
 use store::Item;
 
@@ -28,7 +28,7 @@ pub extern "C" fn saltreeve_explain(
 ) -> i64
     ensures { λ r. ⌜ ExplainCode (now (sheet .entry)) (now (words .entry)) (now (words .exit)) (cellOfKind kind a b c) (now (list .entry)) (now (list .exit)) r ⌝ }
 {
-    signed::explained(why::explain(sheet, words, signed::cell(kind, a, b, c), list))
+    signed::explained(why::explain(sheet, words, batch::number::cell(kind, a, b, c), list))
 }
 
 // Reads a sheet into the lent store, and lists the lines of a reason for an item's being in the left concept of a rule that it breaks.

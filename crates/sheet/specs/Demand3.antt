@@ -8,7 +8,7 @@ use Rattle.logic.specs.Number.{One}
 use Rattle.row.specs.Bit.{Words}
 use Rattle.text.specs.Split.{fields, lines}
 use Rattle.store.specs.declared.Statement.{Statement}
-use Rattle.store.specs.Layout.{size, width}
+use Rattle.store.specs.Layout.{size, widthOf}
 use Rattle.rule.specs.declared.Rule.{Rule}
 use Rattle.field.specs.declared.Form.the-variants as form
 use Rattle.field.specs.declared.StatementWord.{StatementWord}
@@ -34,6 +34,11 @@ pub record SameSaid (x y : Said) : Type 0 where
   pub statements : SameStatements x y
   pub rules : rulesOf (x .rules) ≡ rulesOf (y .rules)
 
+-- the lent words are a store's in length, of row width W
+pub record Sizes (W : ℕ) (s : List ℕ) : Type 0 where
+  pub width : widthOf s ≡ W
+  pub long : length s ≡ size W
+
 -- the line of a statement, or an empty line
 pub data Stating : List ℕ → Type 0 where
   empty : Stating []
@@ -53,17 +58,17 @@ pub record Rearranged (sheet other : List ℕ) : Type 0 where
   pub to : (l : List ℕ) → One l middle → One l middle′
   pub from : (l : List ℕ) → One l middle′ → One l middle
 
--- one field a sentence
-pub record SheetDemand3 : Type 0 where
+-- for the stores of row width W: one field a sentence
+pub record SheetDemand3 (W : ℕ) : Type 0 where
   -- the store of an accepted sheet holds exactly what follows from its statements
-  pub holds : {sheet s t : List ℕ} {x : Said} {r : Reading} → length s ≡ size width → outcome sheet ≡ accepted x → Reads sheet s t r → Held x t
+  pub holds : {sheet s t : List ℕ} {x : Said} {r : Reading} → Sizes W s → outcome W sheet ≡ accepted x → Reads sheet s t r → Held W x t
   -- order and repeats change nothing: two sheets with as many names each and the same statements leave the same store
-  pub any-order : {sheet other s u t v : List ℕ} {x y : Said} {r q : Reading} → Words 64 t → Words 64 v → length s ≡ size width → length u ≡ size width → outcome sheet ≡ accepted x → outcome other ≡ accepted y
+  pub any-order : {sheet other s u t v : List ℕ} {x y : Said} {r q : Reading} → Words 64 t → Words 64 v → Sizes W s → Sizes W u → outcome W sheet ≡ accepted x → outcome W other ≡ accepted y
       → countsOf (x .names) ≡ countsOf (y .names) → SameStatements x y → Reads sheet s t r → Reads other u v q → t ≡ v
   -- statement lines of an accepted sheet in another order, or said again, the length allowing, are accepted, and the same is said
-  pub rearranged : {sheet other : List ℕ} {x : Said} → Rearranged sheet other → length other ≤ sheetLimit → outcome sheet ≡ accepted x → (y : Said) × (outcome other ≡ accepted y) × SameSaid x y
+  pub rearranged : {sheet other : List ℕ} {x : Said} → Rearranged sheet other → length other ≤ sheetLimit → outcome W sheet ≡ accepted x → (y : Said) × (outcome W other ≡ accepted y) × SameSaid x y
   -- they leave the same store, and give the same answer: as many names, rules and findings
-  pub rearranged-reads : {sheet other s u t v : List ℕ} {x : Said} {r q : Reading} → Words 64 t → Words 64 v → length s ≡ size width → length u ≡ size width → Rearranged sheet other
-      → length other ≤ sheetLimit → outcome sheet ≡ accepted x → Reads sheet s t r → Reads other u v q → (t ≡ v) × (r ≡ q)
+  pub rearranged-reads : {sheet other s u t v : List ℕ} {x : Said} {r q : Reading} → Words 64 t → Words 64 v → Sizes W s → Sizes W u → Rearranged sheet other
+      → length other ≤ sheetLimit → outcome W sheet ≡ accepted x → Reads sheet s t r → Reads other u v q → (t ≡ v) × (r ≡ q)
   -- a refused line changes nothing: the store holds what follows from the lines before it
-  pub unchanged : {sheet s t : List ℕ} {x : Said} {r : Reading} {line k : ℕ} → length s ≡ size width → outcome sheet ≡ refused (suc line) k x → begun (marksOf x) ≡ true → Reads sheet s t r → Held x t
+  pub unchanged : {sheet s t : List ℕ} {x : Said} {r : Reading} {line k : ℕ} → Sizes W s → outcome W sheet ≡ refused (suc line) k x → begun (marksOf x) ≡ true → Reads sheet s t r → Held W x t

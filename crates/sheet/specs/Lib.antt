@@ -3,5 +3,6 @@ pub mod Said
 pub mod Meant
 pub mod Promise
 pub mod Demand3
+pub mod Edition
 pub mod own
 pub mod laws

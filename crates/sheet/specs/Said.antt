@@ -14,7 +14,7 @@ use Rattle.field.specs.declared.Form.{Form}
 use Rattle.field.specs.declared.Form.the-variants as form
 use Rattle.line.specs.declared.Marks.{Marks}
 use Rattle.field.specs.Due.{none}
-use Rattle.line.specs.Fault.{headerFault, lineFault, sheetLimit}
+use Rattle.line.specs.Fault.{headerFault, lineFault, roomBy, sheetLimit}
 use Rattle.field.specs.Names.{Names}
 use Rattle.field.specs.Words.{at, Field, formOf, bodyOf}
 use Rattle.saying.specs.Read.{ruleOf}
@@ -60,18 +60,18 @@ lineOf x k = getD (map (λ (r : SheetRule). r .line) (x .rules)) k 0
 abbrev pub marksOf : Said → Marks
 marksOf s = record { stated = not (none (s .statements)); rules = length (s .rules) }
 
--- nothing
-abbrev pub nothing : Said
-nothing = record { names = record { concepts = []; roles = []; items = [] }; statements = []; rules = [] }
+-- nothing, where there is room for so many items
+abbrev pub nothing : ℕ → Said
+nothing room = record { names = record { concepts = []; roles = []; items = []; room = room }; statements = []; rules = [] }
 
 -- what has been said after a line more, which has the number k
 abbrev pub saying : ℕ → Said → Form → List Field → Said
 saying k s form.Concept fs =
-    record { names = record { concepts = s .names .concepts ++ (at 0 fs ∷ []); roles = s .names .roles; items = s .names .items }; statements = s .statements; rules = s .rules }
+    record { names = record { concepts = s .names .concepts ++ (at 0 fs ∷ []); roles = s .names .roles; items = s .names .items; room = s .names .room }; statements = s .statements; rules = s .rules }
 saying k s form.Role fs =
-    record { names = record { concepts = s .names .concepts; roles = s .names .roles ++ (at 0 fs ∷ []); items = s .names .items }; statements = s .statements; rules = s .rules }
+    record { names = record { concepts = s .names .concepts; roles = s .names .roles ++ (at 0 fs ∷ []); items = s .names .items; room = s .names .room }; statements = s .statements; rules = s .rules }
 saying k s form.Item fs =
-    record { names = record { concepts = s .names .concepts; roles = s .names .roles; items = s .names .items ++ (at 0 fs ∷ []) }; statements = s .statements; rules = s .rules }
+    record { names = record { concepts = s .names .concepts; roles = s .names .roles; items = s .names .items ++ (at 0 fs ∷ []); room = s .names .room }; statements = s .statements; rules = s .rules }
 saying k s (form.Statement w) fs = record { names = s .names; statements = s .statements ++ (record { line = k; statement = statementOf (s .names) w fs } ∷ []); rules = s .rules }
 saying k s (form.Rule w) fs = record { names = s .names; statements = s .statements; rules = s .rules ++ (record { line = k; rule = ruleOf (s .names) w fs } ∷ []) }
 saying k s form.Bare fs = s
@@ -90,11 +90,11 @@ unfoldable pub outcomeFrom : ℕ → Said → List (List ℕ) → Outcome
 outcomeFrom k s [] = accepted s
 outcomeFrom k s (l ∷ ls) = cond (eqb (lineFault (s .names) (marksOf s) l) 0) (outcomeFrom (k + 1) (lineSaid k s l) ls) (refused k (lineFault (s .names) (marksOf s) l) s)
 
--- line 1, and the lines after it
-abbrev pub outcomeOf : List (List ℕ) → Outcome
-outcomeOf [] = refused 1 11 nothing
-outcomeOf (l ∷ ls) = cond (eqb (headerFault l) 0) (outcomeFrom 2 nothing ls) (refused 1 (headerFault l) nothing)
+-- line 1, and the lines after it, where the store has item rows of W words
+abbrev pub outcomeOf : ℕ → List (List ℕ) → Outcome
+outcomeOf W [] = refused 1 11 (nothing 0)
+outcomeOf W (l ∷ ls) = cond (eqb (headerFault W l) 0) (outcomeFrom 2 (nothing (roomBy l)) ls) (refused 1 (headerFault W l) (nothing 0))
 
--- a whole sheet
-unfoldable pub outcome : List ℕ → Outcome
-outcome sheet = cond (leb (length sheet) sheetLimit) (outcomeOf (lines sheet)) (refused 0 9 nothing)
+-- a whole sheet, read with a store with item rows of W words
+unfoldable pub outcome : ℕ → List ℕ → Outcome
+outcome W sheet = cond (leb (length sheet) sheetLimit) (outcomeOf W (lines sheet)) (refused 0 9 (nothing 0))

@@ -1,4 +1,6 @@
 -- What is proved of sheets.
+pub mod Width
+pub mod Edition
 pub mod Stands
 pub mod Taken
 pub mod Quick

@@ -1,4 +1,5 @@
 // Whole sheets: what their lines say one after the other, reading them into a lent store, and their rules a second time.
+pub mod edition;
 mod keeping;
 pub mod pass;
 pub mod reads;
@@ -10,6 +11,7 @@ use field::Table;
 use line::Marks;
 use rule::Rule;
 use store::Counts;
+use store::Store;
 
 // What is kept of the lines read so far: how many names are declared, and how far the sheet has come.
 pub struct Kept {
@@ -60,10 +62,22 @@ pub struct Whole {
     pub start: Start,
 }
 
+// Reads a sheet into a lent store, which may be the larger one.
+fn read_large(sheet: &[u8], words: &mut [u64]) -> Reading
+    ensures { λ r. ⌜ Reads (now (sheet .entry)) (now (words .entry)) (now (words .exit)) r ⌝ }
+{
+    let mut names = [0u32; Table::LARGE_NUMBERS];
+    let r = crate::reads::whole(sheet, words, &mut names);
+    r.answer
+}
+
 // Reads a sheet into the lent store: what follows from its statements, and how many findings its rules have.
 pub fn read(sheet: &[u8], words: &mut [u64]) -> Reading
     ensures { λ r. ⌜ Reads (now (sheet .entry)) (now (words .entry)) (now (words .exit)) r ⌝ }
 {
+    if words.len() == Store::LARGE_WORDS {
+        return read_large(sheet, words);
+    }
     let mut names = [0u32; Table::NUMBERS];
     let r = crate::reads::whole(sheet, words, &mut names);
     r.answer

@@ -1,6 +1,9 @@
 // Reading a sheet into a lent store.
 ghost use mathlib.Core.Path.{_≡_};
+ghost use Prim.Native.Nat.{_≤_};
 ghost use lib.ListN.{length};
+ghost use Rattle.store.specs.Layout.{widthOf};
+ghost use Rattle.store.specs.own.Laid.{Laid};
 ghost use Rattle.field.specs.own.Table.{numberCount, tableOf};
 ghost use Rattle.sheet.specs.own.Pass.{Judges, Totalled, Wholly, countedIn};
 ghost use Rattle.sheet.specs.own.Stands.{Since};
@@ -9,7 +12,7 @@ use crate::Start;
 use crate::Whole;
 use judge::Total;
 use store::Counts;
-use store::Store;
+use store::Layout;
 
 // How many findings an answer counts.
 pub fn counted(t: Total) -> u64
@@ -22,17 +25,23 @@ pub fn counted(t: Total) -> u64
 }
 
 // How many findings the rules of an accepted sheet have in all.
-fn count_all(sheet: &[u8], words: &[u64], names: &[u32], counts: Counts, start: Start) -> u64
-    requires { ⌜ Judges (now sheet) (tableOf (now names) counts) (now words) × Since (now sheet) start ⌝ }
-    ensures { λ r. ⌜ Totalled (now (sheet .entry)) (tableOf (now (names .entry)) counts) (now (words .entry)) r ⌝ }
+fn count_all(
+    sheet: &[u8],
+    words: &[u64],
+    at: Layout,
+    names: &[u32],
+    counts: Counts,
+    start: Start,
+) -> u64
+    requires { ⌜ Judges (at .width) (now sheet) (tableOf (now names) counts) (now words) × Since (at .width) (now sheet) start × Laid at (now words) ⌝ }
+    ensures { λ r. ⌜ Totalled (at .width) (now (sheet .entry)) (tableOf (now (names .entry)) counts) (now (words .entry)) r ⌝ }
 {
-    let layout = store::size::layout();
     let mut q = crate::pass::next(sheet, names, counts, start.at, start.line);
     let mut n = 0;
     let mut total = 0;
     while q.found {
         let u = q.rule;
-        let p = judge::seek::start(words, layout, counts, n, u, 0);
+        let p = judge::seek::start(words, at, counts, n, u, 0);
         let answer = p.answer;
         total += counted(answer);
         n += 1;
@@ -43,10 +52,10 @@ fn count_all(sheet: &[u8], words: &[u64], names: &[u32], counts: Counts, start: 
 
 // Reads a sheet into the lent store; with its names, for those who go through its rules again.
 pub fn whole(sheet: &[u8], words: &mut [u64], names: &mut [u32]) -> Whole
-    requires { ⌜ length (now names) ≡ numberCount ⌝ }
+    requires { ⌜ numberCount (widthOf (now words)) ≤ length (now names) ⌝ }
     ensures { λ r. ⌜ Wholly (now (sheet .entry)) (now (words .entry)) (now (words .exit)) (now (names .exit)) r ⌝ }
 {
-    if words.len() != Store::WORDS {
+    if !store::size::long(words) {
         let counts = field::tables::none();
         return Whole {
             answer: Reading::Refused(0, 1),
@@ -54,13 +63,14 @@ pub fn whole(sheet: &[u8], words: &mut [u64], names: &mut [u32]) -> Whole
             start: Start { at: 0, line: 0 },
         };
     }
-    let e = crate::sheets::fill(sheet, words, names);
+    let at = store::size::layout_of(words);
+    let e = crate::sheets::fill(sheet, words, at, names);
     let kept = e.kept;
     let counts = kept.counts;
     let start = e.start;
     if e.why == 0 {
         let marks = kept.marks;
-        let total = count_all(sheet, words, names, counts, start);
+        let total = count_all(sheet, words, at, names, counts, start);
         return Whole {
             answer: Reading::Accepted(counts, marks.rules, total),
             counts,

@@ -1,33 +1,11 @@
--- The numbers of the C face: the answers of the entry points as signed numbers, and a cell by its kind.
-use mathlib.Core.Bool.{true, false, cond}
+-- The numbers of the C face: the answers to questions as signed numbers.
 use Prim.Native.Nat.{ℕ, _+_, _*_, _<_}
-use lib.Dec.{eqb}
 use lib.IntN.{ℤ, pos, negℤ}
-use Rattle.store.specs.Cell.{Cell}
-use Rattle.store.specs.Cell.Cell.{Same, Under, RoleUnder, In, Link}
-use Rattle.store.specs.Layout.{conceptLimit, roleLimit}
-use Rattle.closure.specs.declared.Answer.{Answer}
-use Rattle.closure.specs.declared.Answer.the-variants.{Cells, Refused}
-use Rattle.closure.specs.Refusal.{number}
+use Rattle.store.specs.Layout.{conceptLimit}
 use Rattle.why.specs.declared.Explained.{Explained}
 use Rattle.why.specs.declared.Explained.the-variants as explained
 use Rattle.finding.specs.declared.FindingExplained.{FindingExplained}
 use Rattle.finding.specs.declared.FindingExplained.the-variants as finding
-
--- an answer as a signed number
-abbrev pub codeOf : Answer → ℤ
-codeOf (Cells m) = pos m
-codeOf (Refused k) = negℤ (pos (number k))
-
--- the cell of a kind, by its numbers; any other kind is no cell: a link of a role that no sheet can have
-abbrev pub cellOfKind : ℕ → ℕ → ℕ → ℕ → Cell
-cellOfKind kind a b c =
-    cond (eqb kind 0) (Same a b)
-    (cond (eqb kind 1) (Under a b)
-    (cond (eqb kind 2) (RoleUnder a false b)
-    (cond (eqb kind 3) (RoleUnder a true b)
-    (cond (eqb kind 4) (In a b)
-    (cond (eqb kind 5) (Link c a b) (Link roleLimit a b))))))
 
 -- a refusal as a signed number: 100 times its line, and its number, which is below 100
 abbrev pub refusalCode : ℕ → ℕ → ℤ

@@ -6,5 +6,6 @@ pub mod Parts
 pub mod Cells
 pub mod Keeps
 pub mod Laid
+pub mod Width
 pub mod Look
 pub mod Halves

@@ -46,18 +46,22 @@ pub struct Layout {
 pub struct Store {}
 
 impl Store {
-    // The words of an item row.
-    pub const WIDTH: usize = 2;
-    // The most items.
-    pub const ITEMS: usize = 128;
+    // The words of an item row, in the smaller store and in the larger.
+    pub const SMALL: usize = 2;
+
+    pub const LARGE: usize = 8;
+    // The most items of either.
+    pub const ITEMS: usize = 64 * Store::SMALL;
+
+    pub const LARGE_ITEMS: usize = 64 * Store::LARGE;
     // The most concepts.
     pub const CONCEPTS: usize = 32;
     // The most roles.
     pub const ROLES: usize = 16;
-    // The words of a role's links.
-    pub const BLOCK: usize = 256;
-    // The words of a store.
+    // The words of either store.
     pub const WORDS: usize = 4528;
+
+    pub const LARGE_WORDS: usize = 70192;
 }
 
 // A role's word: a bit for each plain step, then one for each step to the inverse.

@@ -1,35 +1,57 @@
 ghost use mathlib.Core.Path.{_≡_};
-ghost use Prim.Native.Nat.{_<_};
+ghost use Prim.Native.Nat.{_≤_, _<_};
+ghost use lib.ListN.{length};
 ghost use Rattle.logic.specs.own.Decides.{Decides};
 ghost use Rattle.store.specs.Cell.{Within, cellOf};
-ghost use Rattle.store.specs.Layout.{Fits, Sized, width};
-ghost use Rattle.store.specs.own.Laid.{layoutOf};
+ghost use Rattle.store.specs.Layout.{Fits, Sized, size, widthOf};
+ghost use Rattle.store.specs.own.Laid.{layoutOf, widest};
 use crate::Counts;
 use crate::Layout;
 use crate::Statement;
 use crate::Store;
 
-// The layout of the store.
-pub fn layout() -> Layout
+// The words of an item row of a lent store, by its length.
+pub fn width(words: &[u64]) -> usize
+    ensures { λ r. ⌜ r ≡ widthOf (now (words .entry)) ⌝ }
+{
+    if words.len() == Store::LARGE_WORDS {
+        return Store::LARGE;
+    }
+    Store::SMALL
+}
+
+// The layout of a store whose item rows have so many words.
+pub fn layout(width: usize) -> Layout
+    requires { ⌜ width ≤ widest ⌝ }
     ensures { λ r. ⌜ r ≡ layoutOf width ⌝ }
 {
-    let under = Store::ITEMS * Store::WIDTH;
+    let items = 64 * width;
+    let under = items * width;
     let role = under + Store::CONCEPTS;
     let item = role + Store::ROLES;
+    let link = item + items;
     Layout {
-        width: Store::WIDTH,
+        width,
         under,
         role,
         item,
-        link: item + Store::ITEMS,
+        link,
     }
 }
 
-// Whether no declared count is over its limit.
-pub fn fits(counts: Counts) -> bool
+// The layout of a lent store, by its length.
+pub fn layout_of(words: &[u64]) -> Layout
+    ensures { λ r. ⌜ r ≡ layoutOf (widthOf (now (words .entry))) ⌝ }
+{
+    layout(width(words))
+}
+
+// Whether no declared count is over its limit, in a store whose item rows have so many words.
+pub fn fits(width: usize, counts: Counts) -> bool
+    requires { ⌜ width ≤ widest ⌝ }
     ensures { λ r. ⌜ Decides r (Fits width counts) ⌝ }
 {
-    if Store::ITEMS < counts.items {
+    if 64 * width < counts.items {
         return false;
     }
     if Store::CONCEPTS < counts.concepts {
@@ -38,14 +60,24 @@ pub fn fits(counts: Counts) -> bool
     counts.roles <= Store::ROLES
 }
 
-// Whether the words have a store's length and the counts are within their limits.
-pub fn sized(words: &[u64], counts: Counts) -> bool
-    ensures { λ r. ⌜ Decides r (Sized width counts (now (words .entry))) ⌝ }
+// Whether the words have a store's length.
+pub fn long(words: &[u64]) -> bool
+    ensures { λ r. ⌜ Decides r (length (now (words .entry)) ≡ size (widthOf (now (words .entry)))) ⌝ }
 {
-    if words.len() != Store::WORDS {
+    if words.len() == Store::LARGE_WORDS {
+        return true;
+    }
+    words.len() == Store::WORDS
+}
+
+// Whether the words have a store's length and the counts are within its limits.
+pub fn sized(words: &[u64], counts: Counts) -> bool
+    ensures { λ r. ⌜ Decides r (Sized (widthOf (now (words .entry))) counts (now (words .entry))) ⌝ }
+{
+    if !long(words) {
         return false;
     }
-    fits(counts)
+    fits(width(words), counts)
 }
 
 // Whether the statement's numbers are below their counts.

@@ -2,7 +2,7 @@
 ghost use mathlib.Core.Path.{_≡_};
 ghost use Prim.Native.Nat.{min, _≤_};
 ghost use lib.ListN.{length};
-ghost use Rattle.store.specs.Layout.{ClosedStore, width};
+ghost use Rattle.store.specs.Layout.{ClosedStore, widthOf};
 ghost use Rattle.field.specs.own.Table.{Tidy, numberCount, tableOf};
 ghost use Rattle.sheet.specs.own.Pass.{Paused};
 ghost use Rattle.trail.specs.own.Trail.{Ended, Going, Opens, Sought, Steps, searchOf, trailAt};
@@ -15,6 +15,7 @@ use sheet::Reading;
 use store::Counts;
 use store::Item;
 use store::Layout;
+use store::Store;
 
 // A search for the findings of all rules of a sheet: the finding at hand, the search of its rule, how many that rule has left, how many names are declared, and where the sheet is read on for the next rule.
 pub struct Trail {
@@ -119,7 +120,7 @@ fn ended(counts: Counts, past: usize, line: usize, number: usize) -> Trail
         left: none,
         right: none,
         head: Head::Same(Item(0), Item(0)),
-        at: store::size::layout(),
+        at: store::size::layout(Store::SMALL),
         counts,
     };
     trail_at(s, 0, counts, past, line, number)
@@ -135,10 +136,10 @@ fn seek(
     first: usize,
     rule: usize,
 ) -> Trail
-    requires { ⌜ Tidy (now sheet) (tableOf (now names) counts) × ClosedStore width counts (now words) × Paused (now sheet) (tableOf (now names) counts) from first × (rule ≤ from) ⌝ }
+    requires { ⌜ Tidy (now sheet) (tableOf (now names) counts) × ClosedStore (widthOf (now words)) counts (now words) × Paused (now sheet) (tableOf (now names) counts) from first × (rule ≤ from) ⌝ }
     ensures { λ r. ⌜ Sought (now (sheet .entry)) (now (names .entry)) counts (now (words .entry)) from first rule r ⌝ }
 {
-    let at = store::size::layout();
+    let at = store::size::layout_of(words);
     let mut past = from;
     let mut line = first;
     let mut number = rule;
@@ -187,7 +188,7 @@ fn fewer(total: u64, room: usize) -> usize
 
 // Reads a sheet into the lent store: the answer, how many findings go into a list of so many places, and the trail at the first.
 pub fn open(sheet: &[u8], words: &mut [u64], names: &mut [u32], room: usize) -> Opening
-    requires { ⌜ length (now names) ≡ numberCount ⌝ }
+    requires { ⌜ numberCount (widthOf (now words)) ≤ length (now names) ⌝ }
     ensures { λ r. ⌜ Opens (now (sheet .entry)) (now (words .entry)) (now (words .exit)) (now (names .exit)) room r ⌝ }
 {
     let w = sheet::reads::whole(sheet, words, names);

@@ -6,7 +6,7 @@ use Prim.Native.Nat.{ℕ}
 use lib.IntN.{ℤ}
 use lib.ListN.{length, take, drop}
 use Rattle.logic.specs.Number.{One}
-use Rattle.store.specs.Layout.{size, width}
+use Rattle.store.specs.Layout.{small}
 use Rattle.rule.specs.declared.Finding.{Finding}
 use Rattle.rule.specs.declared.Rule.{Rule}
 use Rattle.rule.specs.declared.Second.{Second}
@@ -17,6 +17,7 @@ use Rattle.saying.specs.Meant.{meaningOf}
 use Rattle.sheet.specs.declared.Reading.{Reading}
 use Rattle.sheet.specs.declared.Reading.the-variants.{Accepted}
 use Rattle.sheet.specs.Meant.{linesMean, meanings}
+use Rattle.sheet.specs.Demand3.{Sizes}
 use Rattle.sheet.specs.Promise.{Prints, Reads, findingsText, printLimit, totalText}
 use Rattle.sheet.specs.Said.{RuleAt, Said, StatedIn}
 use Rattle.listing.specs.Promise.{ReadsInto}
@@ -34,8 +35,8 @@ answerOf x fs = Accepted (countsOf (x .names)) (length (x .rules)) (length fs)
 abbrev pub textOf : Said → List Finding → List ℕ
 textOf x fs = findingsText x (take printLimit fs) ++ totalText (length fs)
 
--- of an accepted sheet, which says x: one field a sentence
-pub record SheetVerdict (sheet : List ℕ) (x : Said) : Type 1 where
+-- of a sheet that is accepted with a store of row width W, and says x: one field a sentence
+pub record SheetVerdict (W : ℕ) (sheet : List ℕ) (x : Said) : Type 1 where
   -- its rules are those of its rule lines, in their order, as these mean them
   pub meant : meanings (x .rules) ≡ linesMean (x .names) 2 (drop 1 (lines sheet))
   -- what violates a rule over its statements violates every rule that means the same
@@ -50,12 +51,12 @@ pub record SheetVerdict (sheet : List ℕ) (x : Said) : Type 1 where
   -- the statements IC-satisfy a rule exactly if none of the list is a violation of it
   pub satisfied : {k : ℕ} {u : Rule} → RuleAt x k u → ICSatisfies (countsOf (x .names)) (StatedIn x) u ↔ ((f : Finding) → One f list → ¬ (f .rule ≡ k))
   -- reading the sheet counts them
-  pub read : {s t : List ℕ} {r : Reading} → length s ≡ size width → Reads sheet s t r → r ≡ answerOf x list
+  pub read : {s t : List ℕ} {r : Reading} → Sizes W s → Reads sheet s t r → r ≡ answerOf x list
   -- reading it with a list lists them
-  pub listed : {s t : List ℕ} {before after : List Finding} {r : Reading} → length s ≡ size width → ReadsInto sheet s t before after r → (r ≡ answerOf x list) × (after ≡ filled list before)
+  pub listed : {s t : List ℕ} {before after : List Finding} {r : Reading} → Sizes W s → ReadsInto sheet s t before after r → (r ≡ answerOf x list) × (after ≡ filled list before)
   -- printing prints them
-  pub printed : {text : List ℕ} → Prints sheet text → text ≡ textOf x list
-  -- `saltreeve_check` puts their text into the room, or says that it is too long
-  pub checked : {room exit : List ℕ} {r : ℤ} → Checks sheet room exit r → InRoom (λ (text : List ℕ). text ≡ textOf x list) room exit r
+  pub printed : {text : List ℕ} → Prints W sheet text → text ≡ textOf x list
+  -- `saltreeve_check`, which has the smaller store, puts their text into the room, or says that it is too long
+  pub checked : {room exit : List ℕ} {r : ℤ} → W ≡ small → Checks sheet room exit r → InRoom (λ (text : List ℕ). text ≡ textOf x list) room exit r
   -- so does `saltreeve_check_in`, with a lent store
-  pub checked-in : {s t room exit : List ℕ} {r : ℤ} → length s ≡ size width → ChecksIn sheet s t room exit r → InRoom (λ (text : List ℕ). text ≡ textOf x list) room exit r
+  pub checked-in : {s t room exit : List ℕ} {r : ℤ} → Sizes W s → ChecksIn sheet s t room exit r → InRoom (λ (text : List ℕ). text ≡ textOf x list) room exit r

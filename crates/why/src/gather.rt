@@ -7,7 +7,7 @@ ghost use Rattle.field.specs.own.Table.{Tidy, tableOf};
 ghost use Rattle.reason.specs.own.Picked.{markWords};
 ghost use Rattle.reason.specs.own.Promise.{Clear};
 ghost use Rattle.why.specs.own.Asked.{Asked, ReasonMarked};
-ghost use Rattle.why.specs.own.Gather.{Gathered, statementLimit};
+ghost use Rattle.why.specs.own.Gather.{Gathered, Searched, statementLimit};
 use reason::Lines;
 use store::Counts;
 use store::Statement;
@@ -28,18 +28,20 @@ fn gather(sheet: &[u8], names: &[u32], counts: Counts, codes: &mut [u32; Lines::
     n
 }
 
-// Marks, of the statements of an accepted sheet, a reason for the cell that `cell` states, which follows from them.
+// Marks, of the statements of an accepted sheet, a reason for the cell that `cell` states, which follows from them. The words lent have room for a row of `width` words for each item.
 pub fn reasoned(
     sheet: &[u8],
     names: &[u32],
     counts: Counts,
     cell: Statement,
+    table: &mut [u64],
+    width: usize,
     marks: &mut [u64; Lines::WORDS],
 )
-    requires { ⌜ Asked (now sheet) (tableOf (now names) counts) (cellOf cell) × (length (now marks) ≡ markWords) × Clear (now marks) ⌝ }
+    requires { ⌜ Asked (now sheet) (tableOf (now names) counts) (cellOf cell) × (length (now marks) ≡ markWords) × Clear (now marks) × Searched width counts (now table) ⌝ }
     ensures { λ _. ⌜ ReasonMarked (now (sheet .entry)) (tableOf (now (names .entry)) counts) (cellOf cell) (now (marks .exit)) ⌝ }
 {
     let mut codes = [0u32; Lines::MOST];
     let n = gather(sheet, names, counts, &mut codes);
-    reason::explain(&codes[..n], counts, cell, marks);
+    reason::explain(&codes[..n], counts, cell, table, width, marks);
 }

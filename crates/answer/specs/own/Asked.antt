@@ -15,29 +15,29 @@ use Rattle.finding.specs.own.Sides.{Breaking}
 use Rattle.answer.specs.declared.FindingAsked.{FindingAsked}
 use Rattle.question.specs.Question.{AsksFinding}
 
--- the rule k of the sheet x is in the line whose number the field f says, and the item a breaks it in the store s; it has concept names on both sides
-pub record BrokenIn (n : Counts) (x : Said) (s : List ℕ) (f : Field) (a c d : ℕ) : Type 0 where
+-- the rule k of the sheet x is in the line whose number the field f says, and the item a breaks it in the store s, of row width W; it has concept names on both sides
+pub record BrokenIn (W : ℕ) (n : Counts) (x : Said) (s : List ℕ) (f : Field) (a c d : ℕ) : Type 0 where
   pub rule : ℕ
   pub line : same f (decimal (lineOf x rule)) ≡ true
-  pub broken : BrokenSub n x s rule a c d
+  pub broken : BrokenSub W n x s rule a c d
 
 -- the sides of the rule k, if `on` and if the item a breaks it
-pub record BreakingIf (on : Bool) (sheet : List ℕ) (t : Table) (s : List ℕ) (k a : ℕ) (r : Sides) : Type 0 where
-  pub breaking : on ≡ true → Breaking sheet t s k a r
+pub record BreakingIf (W : ℕ) (on : Bool) (sheet : List ℕ) (t : Table) (s : List ℕ) (k a : ℕ) (r : Sides) : Type 0 where
+  pub breaking : on ≡ true → Breaking W sheet t s k a r
   pub none : on ≡ false → r .named ≡ false
 
 -- the sides of such a rule, or there is none
-abbrev pub SidesIf : Bool → Counts → Said → List ℕ → Field → ℕ → Sides → Type 0
-SidesIf true n x s f a r = BrokenIn n x s f a (r .left) (r .right)
-SidesIf false n x s f a r = (c d : ℕ) → ¬ (BrokenIn n x s f a c d)
+abbrev pub SidesIf : ℕ → Bool → Counts → Said → List ℕ → Field → ℕ → Sides → Type 0
+SidesIf W true n x s f a r = BrokenIn W n x s f a (r .left) (r .right)
+SidesIf W false n x s f a r = (c d : ℕ) → ¬ (BrokenIn W n x s f a c d)
 
 -- the question q is the line of a finding of such a rule
-pub record FindingIn (n : Counts) (x : Said) (s q : List ℕ) (a c d : ℕ) : Type 0 where
+pub record FindingIn (W : ℕ) (n : Counts) (x : Said) (s q : List ℕ) (a c d : ℕ) : Type 0 where
   pub rule : ℕ
   pub asks : AsksFinding (x .names) q (lineOf x rule) a
-  pub broken : BrokenSub n x s rule a c d
+  pub broken : BrokenSub W n x s rule a c d
 
 -- the finding that a question asks for, or it asks for none
-abbrev pub FindingIf : Bool → Counts → Said → List ℕ → List ℕ → FindingAsked → Type 0
-FindingIf true n x s q r = FindingIn n x s q (r .item) (r .left) (r .right)
-FindingIf false n x s q r = (a c d : ℕ) → ¬ (FindingIn n x s q a c d)
+abbrev pub FindingIf : ℕ → Bool → Counts → Said → List ℕ → List ℕ → FindingAsked → Type 0
+FindingIf W true n x s q r = FindingIn W n x s q (r .item) (r .left) (r .right)
+FindingIf W false n x s q r = (a c d : ℕ) → ¬ (FindingIn W n x s q a c d)

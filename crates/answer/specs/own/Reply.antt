@@ -21,7 +21,7 @@ use Rattle.cited.specs.own.Writing.{absentIf}
 
 -- the text of the statements marked has place in the room and is written, or the room is as it was
 pub record ReasonFits (sheet : List ℕ) (n : Names) (a : Absent) (marks room exit : List ℕ) (r : ℕ) : Type 0 where
-  pub fits : (x : Said) → outcome sheet ≡ accepted x → Fitted (reasonText sheet (picked marks (linesOf (x .statements))) (absentIf n a)) room exit r
+  pub fits : (W : ℕ) (x : Said) → outcome W sheet ≡ accepted x → Fitted (reasonText sheet (picked marks (linesOf (x .statements))) (absentIf n a)) room exit r
 
 -- the same for a reason of the cell c
 pub record ReasonSaid (sheet : List ℕ) (x : Said) (n : Counts) (c : Cell) (a : Absent) (room exit : List ℕ) (r : ℕ) : Type 0 where
@@ -29,19 +29,19 @@ pub record ReasonSaid (sheet : List ℕ) (x : Said) (n : Counts) (c : Cell) (a :
   pub reason : Reason n c (x .statements) list
   pub fits : Fitted (reasonText sheet (linesOf list) (absentIf (x .names) a)) room exit r
 
--- the sheet is accepted with the names of the table t, and the store s holds what follows from it
-pub record Known (sheet : List ℕ) (t : Table) (s : List ℕ) : Type 0 where
+-- the sheet is accepted with the names of the table t, and the store s, of row width W, holds what follows from it
+pub record Known (W : ℕ) (sheet : List ℕ) (t : Table) (s : List ℕ) : Type 0 where
   pub said : Said
-  pub ends : outcome sheet ≡ accepted said
+  pub ends : outcome W sheet ≡ accepted said
   pub names : said .names ≡ namesOf sheet t
   pub counts : countsOf (said .names) ≡ t .counts
   pub tidy : Tidy sheet t
-  pub held : Held said s
+  pub held : Held W said s
 
 -- the answer to a question q for a cell, without a line feed at its end
-pub record CellReply (sheet q room exit : List ℕ) (r : ℕ) : Type 0 where
-  pub reply : (question : List ℕ) → bare question ≡ q → aboutFinding q ≡ false → Replies sheet question room exit r
+pub record CellReply (W : ℕ) (sheet q room exit : List ℕ) (r : ℕ) : Type 0 where
+  pub reply : (question : List ℕ) → bare question ≡ q → aboutFinding q ≡ false → Replies W sheet question room exit r
 
 -- the same for a finding
-pub record FindingReply (sheet q room exit : List ℕ) (r : ℕ) : Type 0 where
-  pub reply : (question : List ℕ) → bare question ≡ q → Replies sheet question room exit r
+pub record FindingReply (W : ℕ) (sheet q room exit : List ℕ) (r : ℕ) : Type 0 where
+  pub reply : (question : List ℕ) → bare question ≡ q → Replies W sheet question room exit r

@@ -79,11 +79,11 @@ pub record Standing (sheet : List ℕ) (x : Said) (done : List ℕ) (at k : ℕ)
   pub short : length sheet ≤ sheetLimit
   pub inside : at ≤ length sheet + 1
 
-pub standing-start : (sheet : List ℕ) (x : Said) (e : ℕ) → e ≡ endOf 10 sheet 0 → outcome sheet ≡ accepted x → Standing sheet x [] (e + 1) 2
-standing-start sheet x e ends o =
-    let z = accepted-start sheet x o in
+pub standing-start : (W : ℕ) (sheet : List ℕ) (x : Said) (e : ℕ) → e ≡ endOf 10 sheet 0 → outcome W sheet ≡ accepted x → Standing sheet x [] (e + 1) 2
+standing-start W sheet x e ends o =
+    let z = accepted-start W sheet x o in
     let parted : lines sheet ≡ partOf sheet 0 (endOf 10 sheet 0 - 0) ∷ partsFrom 10 sheet (endOf 10 sheet 0 + 1) = sym (parts-all 10 sheet) ∙ parts-next 10 sheet 0 zero-le in
-    record { said = nothing; statements = refl; rest = rw ends (z .1); left = rw (parted, ends); first = omega arith; short = z .0; inside = omega (arith, ends, end-le 10 sheet 0 zero-le) }
+    record { said = nothing (z .0); statements = refl; rest = rw ends (z .2); left = rw (parted, ends); first = omega arith; short = z .1; inside = omega (arith, ends, end-le 10 sheet 0 zero-le) }
 
 module _ {sheet : List ℕ} {x : Said} {done : List ℕ} {at k : ℕ} (p : Standing sheet x done at k) where
   -- no line is left: all statements are done
@@ -203,7 +203,7 @@ written-end {sheet} {x} {marks} {room} {exit} {p} g w =
 -- ---- how far the room is written
 
 pub sheet-short : {sheet : List ℕ} → Accepted sheet → length sheet ≤ sheetLimit
-sheet-short {sheet} a = accepted-start sheet (a .said) (a .ends) .0
+sheet-short {sheet} a = accepted-start (a .width) sheet (a .said) (a .ends) .1
 
 -- one more at most
 pub one-at-most : (b : Bool) → cond b 1 0 ≤ 1

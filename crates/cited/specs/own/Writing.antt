@@ -32,16 +32,17 @@ pub record PutIf (on : Bool) (p : Printed) (number : ℕ) (line room exit : List
   pub total : r .total ≡ p .total + cond on 1 0
   pub short : r .at ≤ p .at + cond on (length line + 27) 0
 
--- the sheet is accepted, and there is a mark for each of its statements
+-- the sheet is accepted, with a store of some row width, and there is a mark for each of its statements
 pub record Accepted (sheet : List ℕ) : Type 0 where
+  pub width : ℕ
   pub said : Said
-  pub ends : outcome sheet ≡ accepted said
+  pub ends : outcome width sheet ≡ accepted said
   pub few : length (said .statements) ≤ 64 * markWords
 
 -- the lines of the statements marked are written from the room's start on, and counted
 pub record LinesPut (sheet marks room exit : List ℕ) (r : Printed) : Type 0 where
-  pub wrote : (x : Said) → outcome sheet ≡ accepted x → Wrote room 0 (linesText sheet (picked marks (linesOf (x .statements)))) exit (r .at)
-  pub total : (x : Said) → outcome sheet ≡ accepted x → r .total ≡ length (picked marks (linesOf (x .statements)))
+  pub wrote : (W : ℕ) (x : Said) → outcome W sheet ≡ accepted x → Wrote room 0 (linesText sheet (picked marks (linesOf (x .statements)))) exit (r .at)
+  pub total : (W : ℕ) (x : Said) → outcome W sheet ≡ accepted x → r .total ≡ length (picked marks (linesOf (x .statements)))
   pub short : r .at ≤ 500000
   pub few : r .total ≤ 500000
 
@@ -51,5 +52,5 @@ absentIf n a = cond (a .on) (absentText n (a .item) (a .concept)) []
 
 -- the whole text of the statements marked is written from the room's start on, as far as it reaches
 pub record ReasonPut (sheet : List ℕ) (n : Names) (a : Absent) (marks room exit : List ℕ) (r : ℕ) : Type 0 where
-  pub wrote : (x : Said) → outcome sheet ≡ accepted x → Wrote room 0 (reasonText sheet (picked marks (linesOf (x .statements))) (absentIf n a)) exit r
+  pub wrote : (W : ℕ) (x : Said) → outcome W sheet ≡ accepted x → Wrote room 0 (reasonText sheet (picked marks (linesOf (x .statements))) (absentIf n a)) exit r
   pub short : r ≤ 800000

@@ -10,7 +10,7 @@ use Rattle.inspect.specs.own.Test.{AllSpread, Reflexive, RowsInclude, WordInclu
 use Rattle.inspect.specs.own.Below.{BlocksBelow, RowsBelow}
 use Rattle.store.specs.declared.Counts.{Counts}
 use Rattle.store.specs.declared.Layout.{Layout}
-use Rattle.store.specs.Layout.{conceptLimit, itemLimit, roleLimit, width}
+use Rattle.store.specs.Layout.{conceptLimit, itemLimit, roleLimit}
 use Rattle.store.specs.own.RoleWord.{paired, turned}
 use Rattle.store.specs.Cell.{DeclaredItem}
 

@@ -9,6 +9,7 @@ use lib.ListN.{length, getD, set, take, drop, length-append}
 use lib.Seq.{append-snoc, drop-cons, set-at}
 use Rattle.logic.specs.laws.Lowest.{lowest-unique}
 use Rattle.store.specs.declared.Counts.{Counts}
+use Rattle.store.specs.laws.Width.{width-wide}
 use Rattle.rule.specs.declared.Finding.{Finding}
 use Rattle.judge.specs.declared.Prepared.{Prepared}
 use Rattle.rule.specs.declared.Rule.{Rule}
@@ -23,7 +24,7 @@ use Rattle.rule.specs.laws.Few.{few-findings}
 use Rattle.coded.specs.Promise.{ListCode, pairWords, secondWord}
 use Rattle.coded.specs.Promise.ListCode.{refused, listed}
 use Rattle.spelled.specs.Rules.{ruleOf}
-use Rattle.coded.specs.own.Writing.{SmallTotal, Written, WroteTo, totalCode}
+use Rattle.coded.specs.own.Writing.{SmallTotal, Written, WroteTo, mostItems, totalCode}
 
 -- two words a finding
 pairs-length : (fs : List Finding) → length (pairWords fs) ≡ 2 * length fs
@@ -74,7 +75,7 @@ wrote-more {l = l} {i = i} {c = c} {m = m} h w t =
 -- a rule has few findings
 pub small-total : {s : List ℕ} {n : Counts} {k : ℕ} {u : Rule} {room : ℕ} {p : Prepared} → Opens s n k u room p → SmallTotal (p .answer)
 small-total (not-opened l e z) = subst SmallTotal (sym e) tt
-small-total (judged d f e z c) = subst SmallTotal (sym e) (few-findings (d .store .fits .items) f)
+small-total {s} {n} (judged d f e z c) = let few : n .items ≤ mostItems = omega (arith, d .store .fits .items, width-wide s) in subst SmallTotal (sym e) (few-findings few f)
 
 -- the writer's work is the promise
 pub list-by : {n : Counts} {s g before after : List ℕ} {p : Prepared} {r : ℤ} → Prepares s n 0 (ruleOf g) (length before / 2) p → Written s (p .search) (p .write) before after → r ≡ totalCode (p .answer)

@@ -5,7 +5,7 @@ use Prim.Native.Nat.{ℕ, _≤_}
 use native.Mathlib.Omega.{arith}
 use lib.IntN.{ℤ}
 use Rattle.store.specs.declared.Counts.{Counts}
-use Rattle.store.specs.Layout.{width}
+use Rattle.store.specs.Layout.{large}
 use Rattle.rule.specs.declared.Head.{Head}
 use Rattle.rule.specs.declared.Head.the-variants.{Sub, RoleSub, Chain, Ref, Irr, Dis, In, Rel, NoRel, Same, Differ}
 use Rattle.rule.specs.declared.Rule.{Rule}
@@ -34,7 +34,7 @@ few-answers (Same a b) = omega arith
 few-answers (Differ a b) = omega arith
 
 -- an answer of compiling is small
-pub small-outcome : {n : Counts} {u : Rule} {before after : List ℕ} {r : Outcome} → Compiles width n u before after r → SmallOutcome r
+pub small-outcome : {n : Counts} {u : Rule} {before after : List ℕ} {r : Outcome} → Compiles large n u before after r → SmallOutcome r
 small-outcome (refused l e) = tt
 small-outcome {u = u} (compiled d e) = (d .short, few-answers (u .head))
 

@@ -1,9 +1,10 @@
 -- Findings written one after the other, and answers that fit a signed word.
 use mathlib.Core.Path.{_≡_}
 use mathlib.Core.List.{List, _++_}
-use Prim.Native.Nat.{ℕ, _*_, _≤_}
+use Prim.Native.Nat.{ℕ, suc, _*_, _≤_}
 use lib.IntN.{ℤ, pos, negℤ}
 use lib.ListN.{length, drop}
+use Rattle.store.specs.Layout as stored
 use Rattle.rule.specs.declared.Finding.{Finding}
 use Rattle.judge.specs.declared.Search.{Search}
 use Rattle.judge.specs.declared.Total.{Total}
@@ -32,9 +33,13 @@ abbrev pub totalCode : Total → ℤ
 totalCode (Count m) = pos m
 totalCode (Refused k) = negℤ (pos (number k))
 
+-- the most items of any store
+abbrev pub mostItems : ℕ
+mostItems = stored.itemLimit stored.large
+
 -- a total of the findings that one rule can have
 abbrev pub SmallTotal : Total → Type 0
-SmallTotal (Count m) = m ≤ 16512
+SmallTotal (Count m) = m ≤ mostItems * suc mostItems
 SmallTotal (Refused k) = Unit {0}
 
 -- an answer of compiling of the size that a query can have

@@ -2,13 +2,14 @@
 use Rattle.examples.specs.Examples.{Examples}
 use Rattle.examples.specs.laws.Store.{same-itself, same-two}
 use mathlib.Core.Path.{refl}
+use Prim.Native.Nat.{ℕ}
 use Rattle.text.specs.laws.Dates.{dates}
 use Rattle.examples.specs.laws.Queries.{five-items, five-items-room}
 use Rattle.examples.specs.laws.Rules.{ref-none, ref-one, two-articles, one-article}
 
--- all of them
-pub examples : Examples
-examples = record {
+-- all of them, in stores of either size
+pub examples : (W : ℕ) → Examples W
+examples W = record {
   own-inverse = λ k x y. k .closed .obeys .link-inverse y x;
   inverse-twice = λ k x y. k .closed .obeys .role-trans x y;
   same-itself = same-itself;

@@ -5,7 +5,7 @@ use Prim.Native.Nat.{ℕ, zero, suc, _+_, _≤_, _<_}
 use native.Mathlib.Omega.{arith}
 use lib.ListN.{length}
 use Rattle.store.specs.declared.Counts.{Counts}
-use Rattle.store.specs.Layout.{width}
+use Rattle.store.specs.Layout.{large}
 use Rattle.rule.specs.declared.Rule.{Rule}
 use Rattle.rule.specs.Form.{CountFits, NodeWithin, RuleWithin, UsesLater, WellFormed, nodeAt, rootUses, usesBelow}
 use Rattle.query.specs.declared.Outcome.{Outcome}
@@ -68,10 +68,10 @@ module _ {n : Counts} {u : Rule} (b : BladesFit n u) where
       head-length (u .len) (u .nodes) (u .head) (form .head) ∙ ap (headLength (u .nodes)) (b .rule .head)
       ∙ ap₂ (λ c d. lengthOf c + 2 + lengthOf d) (expr-left 1 u (b .rule)) (expr-right 1 u (b .rule))
 
-  pub five-items : {before after : List ℕ} {r : Outcome} → 20 ≤ length before → Compiles width n u before after r → r ≡ Compiled 5 1
+  pub five-items : {before after : List ℕ} {r : Outcome} → 20 ≤ length before → Compiles large n u before after r → r ≡ Compiled 5 1
   five-items l c =
       compiles-unique c (compiled (record { fits = b .fits; form = form; within = within; short = omega (arith, five); enough = omega (arith, five) }) refl) .0
       ∙ ap₂ Compiled five (ap answersOf (b .rule .head))
 
-  pub five-items-room : {before after : List ℕ} {r : Outcome} → length before < 20 → Compiles width n u before after r → r ≡ Refused Room
+  pub five-items-room : {before after : List ℕ} {r : Outcome} → length before < 20 → Compiles large n u before after r → r ≡ Refused Room
   five-items-room l c = compiles-unique c (refused (refused-6 (b .fits) form within (omega (arith, five)) (omega (arith, five))) refl) .0

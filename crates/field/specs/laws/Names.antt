@@ -12,7 +12,7 @@ use Rattle.text.specs.own.Split.{partOf}
 use Rattle.text.specs.Bytes.{place}
 use Rattle.text.specs.Date.{digit, dateShaped}
 use Rattle.text.specs.Name.{isName}
-use Rattle.store.specs.Layout.{conceptLimit, roleLimit, itemLimit, width}
+use Rattle.store.specs.Layout.{conceptLimit, roleLimit}
 use Rattle.rule.specs.Form.{countLimit}
 use Rattle.field.specs.declared.Due.the-variants as due
 use Rattle.field.specs.Names.{Names, reserved, inverted, plain, countOf, isCount, fault, newFault, nameFault, fieldFault, lowerFault}
@@ -80,7 +80,7 @@ module _ (n : Names) (f : Field) where
   unfolding fieldFault
   new-item-date e g = rw (e, g)
 
-  pub new-item-name : not (isName f) ≡ false → dateShaped f ≡ false → newFault (itemLimit width) (n .items) f ≡ fieldFault n due.NewItem f
+  pub new-item-name : not (isName f) ≡ false → dateShaped f ≡ false → newFault (n .room) (n .items) f ≡ fieldFault n due.NewItem f
   unfolding fieldFault
   new-item-name e g = rw (e, g)
 

@@ -11,7 +11,7 @@ use Rattle.text.specs.Bytes.{place}
 use Rattle.text.specs.Date.{dateShaped}
 use Rattle.text.specs.laws.Dates.{datedBefore, shapedBy, no-date-before}
 use Rattle.text.specs.Name.{isName}
-use Rattle.store.specs.Layout.{conceptLimit, itemLimit, roleLimit, width}
+use Rattle.store.specs.Layout.{conceptLimit, roleLimit}
 use Rattle.field.specs.declared.Due.{Due}
 use Rattle.field.specs.declared.Due.the-variants as due
 use Rattle.field.specs.Due.{fits, isExpr}
@@ -100,30 +100,30 @@ module _ (n : Names) where
         let a = fault-none (not (isName f)) 14 (newFault roleLimit (n .roles) f) e in
         new-name isName roleLimit (n .roles) f (not-false _ (a .0)) (a .1)
 
-    pub item-new : fieldFault n due.NewItem f ≡ 0 → New isName (itemLimit width) (n .items) f
+    pub item-new : fieldFault n due.NewItem f ≡ 0 → New isName (n .room) (n .items) f
     unfolding fieldFault
     item-new e =
-        let a = fault-none (not (isName f)) 14 (fault (dateShaped f) 16 (newFault (itemLimit width) (n .items) f)) e in
-        new-name isName (itemLimit width) (n .items) f (not-false _ (a .0)) (fault-none (dateShaped f) 15 (newFault (itemLimit width) (n .items) f) (a .1) .1)
+        let a = fault-none (not (isName f)) 14 (fault (dateShaped f) 16 (newFault (n .room) (n .items) f)) e in
+        new-name isName (n .room) (n .items) f (not-false _ (a .0)) (fault-none (dateShaped f) 15 (newFault (n .room) (n .items) f) (a .1) .1)
 
     -- a name that a new item could have in document 01, where every month had 31 days, it can have now
-    pub item-before : fault (not (isName f)) 15 (fault (shapedBy datedBefore f) 16 (newFault (itemLimit width) (n .items) f)) ≡ 0 → fieldFault n due.NewItem f ≡ 0
+    pub item-before : fault (not (isName f)) 15 (fault (shapedBy datedBefore f) 16 (newFault (n .room) (n .items) f)) ≡ 0 → fieldFault n due.NewItem f ≡ 0
     unfolding fieldFault
     item-before e =
-        let a = fault-none (not (isName f)) 14 (fault (shapedBy datedBefore f) 16 (newFault (itemLimit width) (n .items) f)) e in
-        let b = fault-none (shapedBy datedBefore f) 15 (newFault (itemLimit width) (n .items) f) (a .1) in
+        let a = fault-none (not (isName f)) 14 (fault (shapedBy datedBefore f) 16 (newFault (n .room) (n .items) f)) e in
+        let b = fault-none (shapedBy datedBefore f) 15 (newFault (n .room) (n .items) f) (a .1) in
         rw (a .0, no-date-before f (b .0), b .1)
 
 -- ---- the names that declarations leave
 
 module _ {n : Names} (p : Proper n) (f : Field) where
-  pub proper-concept : New conceptName conceptLimit (n .concepts) f → Proper (record { concepts = n .concepts ++ (f ∷ []); roles = n .roles; items = n .items })
+  pub proper-concept : New conceptName conceptLimit (n .concepts) f → Proper (record { concepts = n .concepts ++ (f ∷ []); roles = n .roles; items = n .items; room = n .room })
   proper-concept w = record { concepts = listed-end conceptName f (n .concepts) (p .concepts) (w .well) (w .out); roles = p .roles; items = p .items }
 
-  pub proper-role : New isName roleLimit (n .roles) f → Proper (record { concepts = n .concepts; roles = n .roles ++ (f ∷ []); items = n .items })
+  pub proper-role : New isName roleLimit (n .roles) f → Proper (record { concepts = n .concepts; roles = n .roles ++ (f ∷ []); items = n .items; room = n .room })
   proper-role w = record { concepts = p .concepts; roles = listed-end isName f (n .roles) (p .roles) (w .well) (w .out); items = p .items }
 
-  pub proper-item : New isName (itemLimit width) (n .items) f → Proper (record { concepts = n .concepts; roles = n .roles; items = n .items ++ (f ∷ []) })
+  pub proper-item : New isName (n .room) (n .items) f → Proper (record { concepts = n .concepts; roles = n .roles; items = n .items ++ (f ∷ []); room = n .room })
   proper-item w = record { concepts = p .concepts; roles = p .roles; items = listed-end isName f (n .items) (p .items) (w .well) (w .out) }
 
 -- one of the names that are there is good

@@ -8,14 +8,14 @@ use native.Mathlib.Omega.{arith}
 use native.Mathlib.Numerals.{add-one}
 use lib.ListN.{length, getD, take, drop, set, length-drop, length-map, length-set, List·getD-map}
 use native.Mathlib.Decide.{ℕ-discrete}
-use lib.Seq.{length-take-le, getD-set-other, getD-set-same, getD-take, getD-drop, take-nil, take-take, take-suc-set, take-set-le, drop-set-lt, drop-set-add}
+use lib.Seq.{length-take-le, getD-set-other, getD-set-same, getD-take, getD-drop, take-suc-set, take-set-le, drop-drop, drop-set-lt, drop-set-add}
 use Rattle.logic.specs.Number.{One, Distinct}
 use Rattle.logic.specs.Number.One.{first, later}
 use Rattle.logic.specs.Number.Distinct.{none, more}
 use Rattle.logic.specs.laws.Number.{one-cases, one-none}
 use Rattle.text.specs.Bytes.{same, place}
 use Rattle.text.specs.laws.Bytes.{same-true, same-all, place-here, place-none, place-on}
-use Rattle.field.specs.own.Table.{Hinted, Listed, Noted, Placed, Table, Tidy, entered, hintAt, hintsFrom, itemsFrom, nameAt, namesOf, rolesFrom}
+use Rattle.field.specs.own.Table.{Hinted, Listed, Noted, Placed, Table, Tidy, conceptsFrom, entered, hintAt, hintCount, itemsFrom, nameAt, namesOf, rolesFrom, roomAt, roomOf}
 use Rattle.field.specs.laws.Tag.{tag-none, tagged-own}
 use Rattle.field.specs.Names.{countsOf}
 use Rattle.field.specs.Words.{Field}
@@ -118,7 +118,7 @@ pub counts-of : (sheet : List ℕ) (t : Table) → Tidy sheet t → countsOf (na
 counts-of sheet t y =
     rw (
       entered-length sheet (t .numbers) itemsFrom (t .counts .items) (omega (arith, y .long, y .room .items)),
-      entered-length sheet (t .numbers) 0 (t .counts .concepts) (omega (arith, y .long, y .room .concepts)),
+      entered-length sheet (t .numbers) conceptsFrom (t .counts .concepts) (omega (arith, y .long, y .room .concepts)),
       entered-length sheet (t .numbers) rolesFrom (t .counts .roles) (omega (arith, y .long, y .room .roles)),
     )
 
@@ -126,30 +126,21 @@ append-map : (f : ℕ → Field) (xs ys : List ℕ) → map f (xs ++ ys) ≡ map
 append-map f [] ys = refl
 append-map f (x ∷ xs) ys = ap (λ (l : List Field). f x ∷ l) (append-map f xs ys)
 
-drop-take : (a m : ℕ) (x : List ℕ) → drop a (take (a + m) x) ≡ take m (drop a x)
-drop-take zero m x = let z : 0 + m ≡ m = omega arith in rw z
-drop-take (suc a) m [] = let z : suc a + m ≡ suc (a + m) = omega arith in rw z (sym (take-nil m))
-drop-take (suc a) m (b ∷ x) = let z : suc a + m ≡ suc (a + m) = omega arith in rw z (drop-take a m x)
-
--- a part before the hints is one of what stands before them
-part-before : (from n h : ℕ) (l : List ℕ) → from + n ≤ h → take n (drop from l) ≡ take n (drop from (take h l))
-part-before from n h l g =
-    let z : h ≡ from + (h - from) = omega arith in
-    let y : n ≤ h - from = omega arith in
-    rw z (rw (drop-take, take-take))
-
 -- an entry and a hint were put into the numbers
-pub noted-both : (numbers : List ℕ) (i p q k l h : ℕ) → hintsFrom ≤ k → k ≡ l → k < length numbers → i < hintsFrom → p ≡ q → Noted numbers i q l (set (set numbers i p) k (h + 1))
-noted-both numbers i p q k l h g z inside before e =
+pub noted-both : (numbers : List ℕ) (i p q k l h : ℕ) → k < hintCount → k ≡ l → hintCount ≤ i → i < length numbers → p ≡ q → Noted numbers i q l (set (set numbers i p) k (h + 1))
+noted-both numbers i p q k l h g z after inside e =
     record {
-      entries = take-set-le hintsFrom (set numbers i p) k (h + 1) g ∙ ap (λ (r : ℕ). take hintsFrom (set numbers i r)) e;
+      entries = drop-set-lt hintCount (set numbers i p) k (h + 1) g ∙ ap (λ (r : ℕ). drop hintCount (set numbers i r)) e;
       long = length-set (set numbers i p) k (h + 1) ∙ length-set numbers i p;
-      here = λ y. omega (arith, sym (getD-set-same (set numbers i p) k (h + 1) 0 (rw length-set inside)) ∙ ap (λ (r : ℕ). getD (set (set numbers i p) k (h + 1)) r 0) z ∙ y);
+      here = λ y. omega (arith, here ∙ ap (λ (r : ℕ). getD (set (set numbers i p) k (h + 1)) r 0) z ∙ y);
       still = λ r b y. go r b (ℕ-discrete r k) y;
     }
   where
-    go : (r : ℕ) → hintsFrom ≤ r → Dec (r ≡ k) → getD (set (set numbers i p) k (h + 1)) r 0 ≡ 0 → getD numbers r 0 ≡ 0
-    go r b (yes x) y = absurd (omega (arith, sym (getD-set-same (set numbers i p) k (h + 1) 0 (rw length-set inside)) ∙ ap (λ (v : ℕ). getD (set (set numbers i p) k (h + 1)) v 0) (sym x) ∙ y))
+    here : h + 1 ≡ getD (set (set numbers i p) k (h + 1)) k 0
+    here = sym (getD-set-same (set numbers i p) k (h + 1) 0 (rw length-set (omega arith)))
+
+    go : (r : ℕ) → r < hintCount → Dec (r ≡ k) → getD (set (set numbers i p) k (h + 1)) r 0 ≡ 0 → getD numbers r 0 ≡ 0
+    go r b (yes x) y = absurd (omega (arith, here ∙ ap (λ (v : ℕ). getD (set (set numbers i p) k (h + 1)) v 0) (sym x) ∙ y))
     go r b (no x) y = sym (getD-set-other numbers i r p 0 (λ v. omega arith)) ∙ sym (getD-set-other (set numbers i p) k r (h + 1) 0 x) ∙ y
 
 -- a name without a hint is none of those that have one
@@ -159,36 +150,43 @@ unhinted sheet numbers from n w room h e =
     record { place = sym l ∙ sym (place-absent w (entered sheet numbers from n) (λ o. h w o e)); count = l }
 
 -- one name more, with its hint
-pub hinted-end : (numbers exit : List ℕ) (from : ℕ) (names : List Field) (w : Field) → Hinted numbers from names → ((k : ℕ) → hintsFrom ≤ k → getD exit k 0 ≡ 0 → getD numbers k 0 ≡ 0) → (getD exit (hintAt from w) 0 ≡ 0 → ⊥)
+pub hinted-end : (numbers exit : List ℕ) (from : ℕ) (names : List Field) (w : Field) → Hinted numbers from names → ((k : ℕ) → k < hintCount → getD exit k 0 ≡ 0 → getD numbers k 0 ≡ 0) → (getD exit (hintAt from w) 0 ≡ 0 → ⊥)
     → Hinted exit from (names ++ (w ∷ []))
 hinted-end numbers exit from [] w h still here v o e = ⊎-elim (λ q. here (ap (λ (x : Field). getD exit (hintAt from x) 0) (sym q) ∙ e)) (λ q. one-none q) (one-cases o)
 hinted-end numbers exit from (x ∷ names) w h still here v o e =
     ⊎-elim (λ q. h v (subst (λ (y : Field). One v (y ∷ names)) q first) (still (hintAt from v) (omega arith) e)) (λ q. hinted-end numbers exit from names w (λ y r. h y (later r)) still here v q e) (one-cases o)
 
 -- no hint was taken out
-pub hinted-still : (numbers exit : List ℕ) (from : ℕ) (names : List Field) → Hinted numbers from names → ((k : ℕ) → hintsFrom ≤ k → getD exit k 0 ≡ 0 → getD numbers k 0 ≡ 0) → Hinted exit from names
+pub hinted-still : (numbers exit : List ℕ) (from : ℕ) (names : List Field) → Hinted numbers from names → ((k : ℕ) → k < hintCount → getD exit k 0 ≡ 0 → getD numbers k 0 ≡ 0) → Hinted exit from names
 hinted-still numbers exit from names h still v o e = h v o (still (hintAt from v) (omega arith) e)
 
 module _ (sheet numbers : List ℕ) (i p hint : ℕ) (exit : List ℕ) (noted : Noted numbers i p hint exit) where
-  part-noted : (from n : ℕ) → from + n ≤ hintsFrom → take n (drop from exit) ≡ take n (drop from (set numbers i p))
-  part-noted from n h = part-before from n hintsFrom exit h ∙ ap (λ (l : List ℕ). take n (drop from l)) (noted .entries) ∙ sym (part-before from n hintsFrom (set numbers i p) h)
+  part-noted : (from : ℕ) → hintCount ≤ from → drop from exit ≡ drop from (set numbers i p)
+  part-noted from h =
+      let z : hintCount + (from - hintCount) ≡ from = omega arith in
+      subst (λ (k : ℕ). drop k exit ≡ drop k (set numbers i p)) z
+      (sym (drop-drop (from - hintCount) hintCount exit) ∙ ap (drop (from - hintCount)) (noted .entries) ∙ drop-drop (from - hintCount) hintCount (set numbers i p))
 
   -- names of another kind, before it or after it
-  pub noted-after : (from n : ℕ) → from + n ≤ hintsFrom → i < from → entered sheet exit from n ≡ entered sheet numbers from n
-  noted-after from n h g = ap (map (nameAt sheet)) (part-noted from n h ∙ ap (take n) (drop-set-lt from numbers i p g))
+  pub noted-after : (from n : ℕ) → hintCount ≤ from → i < from → entered sheet exit from n ≡ entered sheet numbers from n
+  noted-after from n h g = ap (λ (l : List ℕ). map (nameAt sheet) (take n l)) (part-noted from h ∙ drop-set-lt from numbers i p g)
 
-  pub noted-before : (from n : ℕ) → from + n ≤ i → i < hintsFrom → entered sheet exit from n ≡ entered sheet numbers from n
+  pub noted-before : (from n : ℕ) → hintCount ≤ from → from + n ≤ i → entered sheet exit from n ≡ entered sheet numbers from n
   noted-before from n h g =
       let z : i ≡ from + (i - from) = omega arith in
-      ap (map (nameAt sheet)) (part-noted from n (omega arith) ∙ ap (λ (k : ℕ). take n (drop from (set numbers k p))) z ∙ ap (take n) (drop-set-add from numbers (i - from) p)
+      ap (map (nameAt sheet)) (ap (take n) (part-noted from h) ∙ ap (λ (k : ℕ). take n (drop from (set numbers k p))) z ∙ ap (take n) (drop-set-add from numbers (i - from) p)
       ∙ take-set-le n (drop from numbers) (i - from) p (omega arith))
 
   -- names of its own kind: one more
-  pub noted-own : (from n : ℕ) → i ≡ from + n → i < hintsFrom → i < length numbers → entered sheet exit from (n + 1) ≡ entered sheet numbers from n ++ (nameAt sheet p ∷ [])
-  noted-own from n e g l =
+  pub noted-own : (from n : ℕ) → hintCount ≤ from → i ≡ from + n → i < length numbers → entered sheet exit from (n + 1) ≡ entered sheet numbers from n ++ (nameAt sheet p ∷ [])
+  noted-own from n h e l =
       ap (map (nameAt sheet))
-      (part-noted from (n + 1) (omega arith) ∙ ap (λ (k : ℕ). take (n + 1) (drop from (set numbers k p))) e ∙ ap (take (n + 1)) (drop-set-add from numbers n p) ∙ one-more)
+      (ap (take (n + 1)) (part-noted from h) ∙ ap (λ (k : ℕ). take (n + 1) (drop from (set numbers k p))) e ∙ ap (take (n + 1)) (drop-set-add from numbers n p) ∙ one-more)
       ∙ append-map (nameAt sheet) (take n (drop from numbers)) (p ∷ [])
     where
       one-more : take (n + 1) (set (drop from numbers) n p) ≡ take n (drop from numbers) ++ (p ∷ [])
       one-more = rw add-one (take-suc-set (drop from numbers) n p (rw length-drop (omega arith)))
+
+  -- how many items there is room for
+  pub noted-room : (i ≡ roomAt → ⊥) → roomOf exit ≡ roomOf numbers
+  noted-room h = sym (getD-drop hintCount exit (roomAt - hintCount) 0) ∙ ap (λ (l : List ℕ). getD l (roomAt - hintCount) 0) (noted .entries) ∙ getD-drop hintCount (set numbers i p) (roomAt - hintCount) 0 ∙ getD-set-other numbers i roomAt p 0 (λ e. h (sym e))

@@ -2,7 +2,7 @@
 use mathlib.Core.Path.{_≡_}
 use mathlib.Core.Bool.{Bool, true, cond, not, _&&_}
 use mathlib.Core.List.{List, [], map}
-use Prim.Native.Nat.{ℕ, _+_, _-_, _*_, _/_, _%_, _≤_}
+use Prim.Native.Nat.{ℕ, _+_, _-_, _*_, _/_, _%_, _≤_, _<_}
 use lib.Dec.{eqb, leb}
 use lib.ListN.{length, getD, take, drop, set}
 use Rattle.text.specs.own.Chunk.{low}
@@ -11,7 +11,7 @@ use Rattle.text.specs.Bytes.{place as placeOf}
 use Rattle.logic.specs.Number.{Distinct, One}
 use Rattle.text.specs.Name.{isName}
 use Rattle.store.specs.declared.Counts.{Counts}
-use Rattle.store.specs.Layout.{Fits, width, conceptLimit, roleLimit, itemLimit}
+use Rattle.store.specs.Layout.{Fits, conceptLimit, itemLimit, large, roleLimit}
 use Rattle.field.specs.Names.{Names, reserved}
 use Rattle.field.specs.Words.{Field}
 
@@ -48,21 +48,27 @@ entryOf w place = tagOf w * taggedCount + (place * lengthCount + length w)
 abbrev pub nameAt : List ℕ → ℕ → List ℕ
 nameAt sheet p = tagged (p / taggedCount) (partOf sheet (p / lengthCount % placeCount) (p % lengthCount))
 
--- where the entries of the roles and of the items begin, after those of the concepts; where the hints do, and how many there are
+-- how many hints there are, which come first
+abbrev pub hintCount : ℕ
+hintCount = 1024
+
+-- where the number of items stands that the sheet's edition has room for
+abbrev pub roomAt : ℕ
+roomAt = hintCount
+
+-- where the entries of the concepts, of the roles and of the items begin; those of the items come last
+abbrev pub conceptsFrom : ℕ
+conceptsFrom = roomAt + 1
+
 abbrev pub rolesFrom : ℕ
-rolesFrom = conceptLimit
+rolesFrom = conceptsFrom + conceptLimit
 
 abbrev pub itemsFrom : ℕ
 itemsFrom = rolesFrom + roleLimit
 
-abbrev pub hintsFrom : ℕ
-hintsFrom = itemsFrom + itemLimit width
-
-abbrev pub hintCount : ℕ
-hintCount = 1024
-
-abbrev pub numberCount : ℕ
-numberCount = hintsFrom + hintCount
+-- how many numbers there are, for as many items as a store with item rows of W words has
+abbrev pub numberCount : ℕ → ℕ
+numberCount W = itemsFrom + itemLimit W
 
 -- a number made of a name's first four bytes and its last four, or, where it has fewer than four, of its tag
 unfoldable pub keyOf : List ℕ → ℕ
@@ -70,7 +76,7 @@ keyOf w = cond (leb 4 (length w)) ((low (partOf w 0 4) * 113173225 + low (partOf
 
 -- where the hint for a name stands, among the names whose entries begin at a place
 abbrev pub hintAt : ℕ → List ℕ → ℕ
-hintAt from w = hintsFrom + (keyOf w + from) % hintCount
+hintAt from w = (keyOf w + from) % hintCount
 
 -- the names of the n entries from a place on
 abbrev pub entered : List ℕ → List ℕ → ℕ → ℕ → List (List ℕ)
@@ -84,21 +90,26 @@ pub record Table : Type 0 where
 abbrev pub tableOf : List ℕ → Counts → Table
 tableOf numbers counts = record { numbers = numbers; counts = counts }
 
+-- how many items there is room for
+abbrev pub roomOf : List ℕ → ℕ
+roomOf numbers = getD numbers roomAt 0
+
 -- the names of a table
 abbrev pub namesOf : List ℕ → Table → Names
 namesOf sheet t =
     record {
-      concepts = entered sheet (t .numbers) 0 (t .counts .concepts);
+      concepts = entered sheet (t .numbers) conceptsFrom (t .counts .concepts);
       roles = entered sheet (t .numbers) rolesFrom (t .counts .roles);
       items = entered sheet (t .numbers) itemsFrom (t .counts .items);
+      room = roomOf (t .numbers);
     }
 
--- an entry was put into the numbers at a place before the hints, and a hint at its place; no hint was taken out
+-- an entry was put into the numbers at a place after the hints, where all else is as it was, and a hint at its place; no hint was taken out
 pub record Noted (numbers : List ℕ) (place p hint : ℕ) (exit : List ℕ) : Type 0 where
-  pub entries : take hintsFrom exit ≡ take hintsFrom (set numbers place p)
+  pub entries : drop hintCount exit ≡ drop hintCount (set numbers place p)
   pub long : length exit ≡ length numbers
   pub here : getD exit hint 0 ≡ 0 → ⊥
-  pub still : (k : ℕ) → hintsFrom ≤ k → getD exit k 0 ≡ 0 → getD numbers k 0 ≡ 0
+  pub still : (k : ℕ) → k < hintCount → getD exit k 0 ≡ 0 → getD numbers k 0 ≡ 0
 
 -- the place k of the name w among the names, of which there are n
 pub record Placed (w : List ℕ) (names : List (List ℕ)) (n k : ℕ) : Type 0 where
@@ -125,13 +136,13 @@ abbrev pub Hinted : List ℕ → ℕ → List Field → Type 0
 Hinted numbers from names = (w : Field) → One w names → getD numbers (hintAt from w) 0 ≡ 0 → ⊥
 
 pub record AllHinted (numbers : List ℕ) (n : Names) : Type 0 where
-  pub concepts : Hinted numbers 0 (n .concepts)
+  pub concepts : Hinted numbers conceptsFrom (n .concepts)
   pub roles : Hinted numbers rolesFrom (n .roles)
   pub items : Hinted numbers itemsFrom (n .items)
 
--- a table with no more names than there is room for, all as declarations leave them
+-- a table that has all its entries, no more of them than any store has room for, and all names as declarations leave them
 pub record Tidy (sheet : List ℕ) (t : Table) : Type 0 where
-  pub long : length (t .numbers) ≡ numberCount
-  pub room : Fits width (t .counts)
+  pub long : itemsFrom + t .counts .items ≤ length (t .numbers)
+  pub room : Fits large (t .counts)
   pub proper : Proper (namesOf sheet t)
   pub hinted : AllHinted (t .numbers) (namesOf sheet t)

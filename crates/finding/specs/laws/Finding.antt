@@ -8,7 +8,7 @@ use lib.ListN.{length, length-append}
 use Rattle.store.specs.declared.Concept.{Concept}
 use Rattle.store.specs.declared.Counts.{Counts}
 use Rattle.store.specs.Cell.Cell.{In}
-use Rattle.store.specs.Layout.{Holds, width}
+use Rattle.store.specs.Layout.{Holds}
 use Rattle.rule.specs.declared.Head.{Head}
 use Rattle.rule.specs.declared.Head.the-variants as head
 use Rattle.rule.specs.declared.Node.{Node}
@@ -104,49 +104,49 @@ split-unique (z ∷ b) (w ∷ b′) {x} {y} c c′ e l = let q : b ++ x ∷ c �
 pub rule-unique : {x : Said} {k : ℕ} {u v : Rule} → RuleAt x k u → RuleAt x k v → u ≡ v
 rule-unique p q = ap (λ (r : SheetRule). r .rule) (split-unique (p .before) (q .before) (p .after) (q .after) (sym (p .is) ∙ q .is) (omega (arith, p .place, q .place)))
 
-module _ {n : Counts} {x : Said} {s : List ℕ} {k a : ℕ} where
+module _ {W : ℕ} {n : Counts} {x : Said} {s : List ℕ} {k a : ℕ} where
   -- there is no such rule
-  pub broken-none : length (x .rules) ≤ k → (c d : ℕ) → ¬ (BrokenSub n x s k a c d)
+  pub broken-none : length (x .rules) ≤ k → (c d : ℕ) → ¬ (BrokenSub W n x s k a c d)
   broken-none h c d z =
       let w = z .there in
       omega (arith, w .place, ap length (w .is), length-append (w .before) (record { line = w .line; rule = z .rule } ∷ w .after))
 
   module _ {u : Rule} (p : RuleAt x k u) where
-    same-rule : {c d : ℕ} (z : BrokenSub n x s k a c d) → SubOfNames u c d × Breaks (Holds width n s) n u a second.None
+    same-rule : {c d : ℕ} (z : BrokenSub W n x s k a c d) → SubOfNames u c d × Breaks (Holds W n s) n u a second.None
     same-rule {c} {d} z =
         let e = rule-unique (z .there) p in
-        (subst (λ (v : Rule). SubOfNames v c d) e (z .names), subst (λ (v : Rule). Breaks (Holds width n s) n v a second.None) e (z .broken))
+        (subst (λ (v : Rule). SubOfNames v c d) e (z .names), subst (λ (v : Rule). Breaks (Holds W n s) n v a second.None) e (z .broken))
 
     -- it is of another kind
-    pub broken-other : ((c d : ℕ) → ¬ (SubOfNames u c d)) → (c d : ℕ) → ¬ (BrokenSub n x s k a c d)
+    pub broken-other : ((c d : ℕ) → ¬ (SubOfNames u c d)) → (c d : ℕ) → ¬ (BrokenSub W n x s k a c d)
     broken-other f c d z = f c d (same-rule z .0)
 
     module _ {l r : ℕ} (q : SubOfNames u l r) where
-      sub-broken : Breaks (Holds width n s) n u a second.None → Holds width n s (In a l) × ¬ (Holds width n s (In a r))
+      sub-broken : Breaks (Holds W n s) n u a second.None → Holds W n s (In a l) × ¬ (Holds W n s (In a r))
       unfolding HoldsOf
       sub-broken b =
-          let z : BreaksAlone (Holds width n s) n (u .nodes) (head.Sub (q .left) (q .right)) a = subst (λ (h : Head). BreaksAlone (Holds width n s) n (u .nodes) h a) (q .head) (b .1) in
-          (subst (λ (e : Expr). HoldsOf (Holds width n s) n e a) (q .first) (z .0), λ h. z .1 (subst (λ (e : Expr). HoldsOf (Holds width n s) n e a) (sym (q .second)) h))
+          let z : BreaksAlone (Holds W n s) n (u .nodes) (head.Sub (q .left) (q .right)) a = subst (λ (h : Head). BreaksAlone (Holds W n s) n (u .nodes) h a) (q .head) (b .1) in
+          (subst (λ (e : Expr). HoldsOf (Holds W n s) n e a) (q .first) (z .0), λ h. z .1 (subst (λ (e : Expr). HoldsOf (Holds W n s) n e a) (sym (q .second)) h))
 
-      broken-sub : Holds width n s (In a l) → ¬ (Holds width n s (In a r)) → Breaks (Holds width n s) n u a second.None
+      broken-sub : Holds W n s (In a l) → ¬ (Holds W n s (In a r)) → Breaks (Holds W n s) n u a second.None
       unfolding HoldsOf
       broken-sub h g = (
         h .within .0,
-        subst (λ (e : Head). BreaksAlone (Holds width n s) n (u .nodes) e a) (sym (q .head))
-            (subst (λ (e : Expr). HoldsOf (Holds width n s) n e a) (sym (q .first)) h, λ b. g (subst (λ (e : Expr). HoldsOf (Holds width n s) n e a) (q .second) b)),
+        subst (λ (e : Head). BreaksAlone (Holds W n s) n (u .nodes) e a) (sym (q .head))
+            (subst (λ (e : Expr). HoldsOf (Holds W n s) n e a) (sym (q .first)) h, λ b. g (subst (λ (e : Expr). HoldsOf (Holds W n s) n e a) (q .second) b)),
       )
 
       -- it is not broken: the item is not in the left concept, or it is in the right one
-      pub broken-left : ¬ (Holds width n s (In a l)) → (c d : ℕ) → ¬ (BrokenSub n x s k a c d)
+      pub broken-left : ¬ (Holds W n s (In a l)) → (c d : ℕ) → ¬ (BrokenSub W n x s k a c d)
       broken-left g c d z = g (sub-broken (same-rule z .1) .0)
 
-      pub broken-right : Holds width n s (In a r) → (c d : ℕ) → ¬ (BrokenSub n x s k a c d)
+      pub broken-right : Holds W n s (In a r) → (c d : ℕ) → ¬ (BrokenSub W n x s k a c d)
       broken-right h c d z = sub-broken (same-rule z .1) .1 h
 
       -- it is broken
-      pub broken-yes : Holds width n s (In a l) → ¬ (Holds width n s (In a r)) → BrokenSub n x s k a l r
+      pub broken-yes : Holds W n s (In a l) → ¬ (Holds W n s (In a r)) → BrokenSub W n x s k a l r
       broken-yes h g = record { rule = u; there = p; names = q; broken = broken-sub h g }
 
 -- the item of a broken rule is in its left concept
-pub broken-in : {n : Counts} {x : Said} {s : List ℕ} {k a c d : ℕ} → BrokenSub n x s k a c d → Holds width n s (In a c)
-broken-in {n} {x} {s} {k} {a} z = sub-broken {n = n} {x = x} {s = s} {k = k} {a = a} (z .there) (z .names) (z .broken) .0
+pub broken-in : {W : ℕ} {n : Counts} {x : Said} {s : List ℕ} {k a c d : ℕ} → BrokenSub W n x s k a c d → Holds W n s (In a c)
+broken-in {W} {n} {x} {s} {k} {a} z = sub-broken {W = W} {n = n} {x = x} {s = s} {k = k} {a = a} (z .there) (z .names) (z .broken) .0

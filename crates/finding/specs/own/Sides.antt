@@ -36,11 +36,11 @@ abbrev pub RuleFound : Bool → Said → ℕ → RuleLine → Type 0
 RuleFound true x k q = RuleAt x k (q .rule)
 RuleFound false x k q = length (x .rules) ≤ k
 
--- the sides of the rule with the number k, if it is such a one and the item a breaks it
-abbrev pub BrokenIf : Bool → Counts → Said → List ℕ → ℕ → ℕ → Sides → Type 0
-BrokenIf true n x s k a r = BrokenSub n x s k a (r .left) (r .right)
-BrokenIf false n x s k a r = (c d : ℕ) → ¬ (BrokenSub n x s k a c d)
+-- the sides of the rule with the number k, if it is such a one and the item a breaks it in the store s, of row width W
+abbrev pub BrokenIf : ℕ → Bool → Counts → Said → List ℕ → ℕ → ℕ → Sides → Type 0
+BrokenIf W true n x s k a r = BrokenSub W n x s k a (r .left) (r .right)
+BrokenIf W false n x s k a r = (c d : ℕ) → ¬ (BrokenSub W n x s k a c d)
 
 -- the same of the accepted sheet with the names of the table t
-abbrev pub Breaking : List ℕ → Table → List ℕ → ℕ → ℕ → Sides → Type 0
-Breaking sheet t s k a r = Of sheet t (λ x. BrokenIf (r .named) (t .counts) x s k a r)
+abbrev pub Breaking : ℕ → List ℕ → Table → List ℕ → ℕ → ℕ → Sides → Type 0
+Breaking W sheet t s k a r = Of sheet t (λ x. BrokenIf W (r .named) (t .counts) x s k a r)

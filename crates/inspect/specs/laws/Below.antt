@@ -36,8 +36,8 @@ pub below-shift : (w n : ℕ) → w < 2 ^ 64 → WordBelow w n → w / 2 ^ n ≡
 below-shift w n h f = no-bits 64 (w / 2 ^ n) (lt-of-le-of-lt (shr-le w n) h) (λ k l x. absurd (omega (arith, f (n + k) (shift-has w n x))))
 
 -- a row with no bit: its words are 0
-pub below-none : (s : List ℕ) (n i : ℕ) → RowBelow s 0 n 0 → i < n → getD s i 0 < 2 ^ 64 → getD s i 0 ≡ 0
-below-none s n i f l h = no-bits 64 (getD s i 0) h (λ k lk x. let e : i ≡ 0 + i = omega arith in absurd (omega (arith, f i l k (at-place s e x))))
+pub below-none : (s : List ℕ) (at n h : ℕ) → RowBelow s at n 0 → h < n → getD s (at + h) 0 < 2 ^ 64 → getD s (at + h) 0 ≡ 0
+below-none s at n h f l w = no-bits 64 (getD s (at + h) 0) w (λ k lk x. absurd (omega (arith, f h l k x)))
 
 -- word h of a row has bits below n, as a word with what is left of n
 pub word-row : (w n h : ℕ) → WordBelow w (n - h * 64) → (k : ℕ) → Has w k → h * 64 + k < n

@@ -11,7 +11,7 @@ use Rattle.logic.specs.Number as counting
 use Rattle.logic.specs.laws.Number.{number-iff}
 use Rattle.store.specs.declared.Counts.{Counts}
 use Rattle.store.specs.declared.Layout.{Layout}
-use Rattle.store.specs.Layout.{ClosedStore, Holds, width}
+use Rattle.store.specs.Layout.{ClosedStore, Holds, widthOf}
 use Rattle.store.specs.own.Laid.{Laid, layoutOf}
 use Rattle.judge.specs.declared.Cursor.{Cursor}
 use Rattle.rule.specs.declared.Finding.{Finding}
@@ -86,11 +86,11 @@ starts {s} {at} {n} k {u} room {t = t} l m d a b =
     }
 
 -- a refusal prepares a listing that writes nothing
-pub prepared-refused : {s : List ℕ} {n : Counts} (k : ℕ) {u : Rule} (room : ℕ) {r : RuleRefusal} {p : Prepared} → Lowest (RuleFault width n u s) (number r) → Stops r p → Prepares s n k u room p
+pub prepared-refused : {s : List ℕ} {n : Counts} (k : ℕ) {u : Rule} (room : ℕ) {r : RuleRefusal} {p : Prepared} → Lowest (RuleFault (widthOf s) n u s) (number r) → Stops r p → Prepares s n k u room p
 prepared-refused k room l z = record { fits = omega (arith, z .write); ready = λ h. absurd (omega (arith, z .write)); opens = not-opened l (z .answer) (z .write) }
 
 -- a rule that is judged prepares a listing of its findings
-pub prepared-judged : {s : List ℕ} {at : Layout} {n : Counts} {k : ℕ} {u : Rule} {room : ℕ} {p : Prepared} → Judged width n u s → at ≡ layoutOf width → Starts s at n k u room p → Prepares s n k u room p
+pub prepared-judged : {s : List ℕ} {at : Layout} {n : Counts} {k : ℕ} {u : Rule} {room : ℕ} {p : Prepared} → Judged (widthOf s) n u s → at ≡ layoutOf (widthOf s) → Starts s at n k u room p → Prepares s n k u room p
 prepared-judged {s} {n = n} {k = k} {u = u} d e z = record {
   fits = omega (arith, z .write);
   ready = λ h. z .ready;
@@ -98,9 +98,9 @@ prepared-judged {s} {n = n} {k = k} {u = u} d e z = record {
 }
 
 -- the answer of a listing with no room is the total
-pub totals-by : {s : List ℕ} {n : Counts} {u : Rule} {p : Prepared} → Prepares s n 0 u 0 p → Totals width n u s (p .answer)
+pub totals-by : {s : List ℕ} {n : Counts} {u : Rule} {p : Prepared} → Prepares s n 0 u 0 p → Totals (widthOf s) n u s (p .answer)
 totals-by {s} {n} {u} {p} a = go (a .opens)
   where
-    go : Opens s n 0 u 0 p → Totals width n u s (p .answer)
-    go (not-opened l e z) = subst (λ (r : Total). Totals width n u s r) (sym e) (total-refused l)
-    go (judged d f e z c) = subst (λ (r : Total). Totals width n u s r) (sym e) (counted d f)
+    go : Opens s n 0 u 0 p → Totals (widthOf s) n u s (p .answer)
+    go (not-opened l e z) = subst (λ (r : Total). Totals (widthOf s) n u s r) (sym e) (total-refused l)
+    go (judged d f e z c) = subst (λ (r : Total). Totals (widthOf s) n u s r) (sym e) (counted d f)

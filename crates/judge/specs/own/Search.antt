@@ -6,7 +6,7 @@ use lib.ListN.{length}
 use Rattle.logic.specs.Lowest.{Lowest}
 use Rattle.store.specs.declared.Counts.{Counts}
 use Rattle.store.specs.Cell.{Cell}
-use Rattle.store.specs.Layout.{ClosedStore, Holds, width}
+use Rattle.store.specs.Layout.{ClosedStore, Holds, widthOf}
 use Rattle.store.specs.own.Laid.{Laid}
 use Rattle.store.specs.declared.Layout.{Layout}
 use Rattle.judge.specs.declared.Cursor.{Cursor}
@@ -50,8 +50,8 @@ pub data Met (s : List ℕ) (first : Search) : List Finding → Search → Type 
 
 -- how a listing of the rule u begins, in a list of `room` places: refused, with nothing to write; or at the first of all findings
 pub data Opens (s : List ℕ) (n : Counts) (k : ℕ) (u : Rule) (room : ℕ) (p : Prepared) : Type 0 where
-  refused : {r : RuleRefusal} → Lowest (RuleFault width n u s) (number r) → p .answer ≡ Refused r → p .write ≡ 0 → Opens s n k u room p
-  judged : {fs : List Finding} → Judged width n u s → Findings (Holds width n s) n k u fs → p .answer ≡ Count (length fs) → p .write ≡ min (length fs) room → Coming s (p .search) fs
+  refused : {r : RuleRefusal} → Lowest (RuleFault (widthOf s) n u s) (number r) → p .answer ≡ Refused r → p .write ≡ 0 → Opens s n k u room p
+  judged : {fs : List Finding} → Judged (widthOf s) n u s → Findings (Holds (widthOf s) n s) n k u fs → p .answer ≡ Count (length fs) → p .write ≡ min (length fs) room → Coming s (p .search) fs
       → Opens s n k u room p
 
 -- the same with what the writer asks

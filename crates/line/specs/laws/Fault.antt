@@ -7,7 +7,7 @@ use native.Mathlib.Omega.{arith}
 use borrow.Author.Tests.{lt-ltb, le-ltb}
 use lib.Dec.{ltb}
 use lib.ListN.{length, drop, length-drop}
-use Rattle.text.specs.Bytes.{every, same}
+use Rattle.text.specs.Bytes.{every}
 use Rattle.text.specs.Name.{lineByte}
 use Rattle.text.specs.Split.{fields}
 use Rattle.rule.specs.Form.{nodeLimit}
@@ -17,7 +17,7 @@ use Rattle.field.specs.declared.Lineup.{Lineup}
 use Rattle.line.specs.declared.Marks.{Marks}
 use Rattle.line.specs.declared.Walked.{Walked}
 use Rattle.field.specs.Due.{dues, lineupOf, none}
-use Rattle.line.specs.Fault.{ended, fieldsFault, formFault, full, header, headerFault, lineFault, lineLimit, unknown}
+use Rattle.line.specs.Fault.{ended, fieldsFault, formFault, full, lineFault, lineLimit, unknown}
 use Rattle.field.specs.Names.{Names, fault, fieldFault, lowerFault}
 use Rattle.field.specs.own.Line.{wordsOf}
 use Rattle.field.specs.own.Table.{Listed, Placed, conceptName}
@@ -67,24 +67,6 @@ module _ (n : Names) (m : Marks) (l : List ℕ) where
       pub line-form : not (every lineByte l) ≡ false → formFault n m (formOf (fields l)) (bodyOf (fields l)) ≡ lineFault n m l
       unfolding lineFault
       line-form e = rw (none-some l h, le-ltb lineLimit (length l) g, e)
-
-module _ (l : List ℕ) where
-  pub header-long : lineLimit < length l → 10 ≡ headerFault l
-  unfolding headerFault
-  header-long g = rw (lt-ltb lineLimit (length l) g)
-
-  module _ (g : length l ≤ lineLimit) where
-    pub header-bytes : not (every lineByte l) ≡ true → 10 ≡ headerFault l
-    unfolding headerFault
-    header-bytes e = rw (le-ltb lineLimit (length l) g, e)
-
-    pub header-wrong : not (every lineByte l) ≡ false → not (same l header) ≡ true → 11 ≡ headerFault l
-    unfolding headerFault
-    header-wrong e q = rw (le-ltb lineLimit (length l) g, e, q)
-
-    pub header-right : not (every lineByte l) ≡ false → not (same l header) ≡ false → 0 ≡ headerFault l
-    unfolding headerFault
-    header-right e q = rw (le-ltb lineLimit (length l) g, e, q)
 
 -- ---- by its form
 

@@ -41,7 +41,7 @@ use denote.Triple.Spec.{Meets, tripleOf}
 use denote.Triple.Table.{entered, cited}
 use denote.Triple.Walked.{Stays, stay-dropped, walkOf, AllGo, goes-dropped, Walks, ends-at, walked, walk-meets}
 use denote.Exit.{yes}
-use Rattle.store.specs.Layout.{width}
+use Rattle.store.specs.Layout.{widthOf}
 use Rattle.store.specs.declared.Counts.{Counts}
 use Rattle.store.proofs.Counts as N
 use Rattle.store.proofs.Counts.Laws as N′
@@ -214,7 +214,7 @@ module _ {M : Type 1} (𝓤 : URA M) (H : Heap 𝓤) (A : Atoms 𝓤) (W : Given
         -- [what `listing::findings` asks; the loan; _10; …; ..]
         calls-at ! fm (Find 𝓤 H A mem run) known (to-find l₆ ν γ) (and-then ! (load ! (from ! (stop !)) (look ! 19 refl)) (and-then ! (load ! (from ! (stop !)) (look ! 17 refl)) (and-then ! (load ! (from ! (stop !)) (look ! 15 refl)) (and-then ! (load ! (from ! (stop !)) (look ! 13 refl)) (and-then ! (load ! (from ! (stop !)) (look ! 4 refl)) (no-more !)))))) (λ v.
         use1 W (later (some (λ (r : Total). (Tokens ν ⊛ ‵ (E.the-row .own r (v ∷ []))) ⊛ raw (ensured 𝓤 H A fi.ended (fi.clauses 𝓤 H A mem run) (κ, (ν ∷ [], tt)) (s, (counts, (number, (u, (lent l₆ ν γ, tt))))) tt r)))) (id⊢ 𝓤 _) $ await ! tt $ pick ! (λ r.
-        split ! $ move ! (1 ∷ []) $ use1 W (some (λ (ls : Unit {0} × (Unit {0} × (Unit {0} × (Unit {0} × (List Finding × Unit {0}))))). ‵ (lasts fi.ended (κ, (ν ∷ [], tt)) (s, (counts, (number, (u, (lent l₆ ν γ, tt))))) ls) ⊛ raw (fact 𝓤 (Lists width counts number u (now s) xs (ls .1 .1 .1 .1 .0) r)))) (id⊢ 𝓤 _) $ pick ! (λ ls.
+        split ! $ move ! (1 ∷ []) $ use1 W (some (λ (ls : Unit {0} × (Unit {0} × (Unit {0} × (Unit {0} × (List Finding × Unit {0}))))). ‵ (lasts fi.ended (κ, (ν ∷ [], tt)) (s, (counts, (number, (u, (lent l₆ ν γ, tt))))) ls) ⊛ raw (fact 𝓤 (Lists (widthOf (now s)) counts number u (now s) xs (ls .1 .1 .1 .1 .0) r)))) (id⊢ 𝓤 _) $ pick ! (λ ls.
         let zs = ls .1 .1 .1 .1 .0 in
         split ! $ move ! (1 ∷ []) $ drop ! $ fsplit ! $ drop ! $ fsplit ! $ drop ! $ fsplit ! $ drop ! $ fsplit ! $ drop ! $ fsplit ! $ move ! (1 ∷ []) $ drop ! $ fsplit ! $ move ! (1 ∷ []) $ drop ! $
         -- [the last list; the tokens and the answer; the loan; _10; …; ..]

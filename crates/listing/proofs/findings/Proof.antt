@@ -61,7 +61,7 @@ use Rattle.judge.proofs.seek.prepare as pr
 use Rattle.judge.proofs.seek.prepare.Symbol as pr-def
 use Rattle.judge.proofs.seek.prepare.Symbol.{name as #rule·seek·prepare}
 use Rattle.judge.proofs.seek.prepare.Met as pr-thm
-use Rattle.store.specs.Layout.{width}
+use Rattle.store.specs.Layout.{widthOf}
 use Rattle.judge.specs.Promise.{Lists}
 use Rattle.listing.specs.own.Listing.{Written}
 use Rattle.listing.specs.laws.Lists.{lists-by}
@@ -182,7 +182,7 @@ module _ {M : Type 1} (𝓤 : URA M) (H : Heap 𝓤) (A : Atoms 𝓤) (W : Given
   OwnL = MutSlice (named 1) κ′ T.the-row .own ref (lv ∷ [])
 
   -- the exit, where the list is zs and the answer r
-  exits : (r : Total) (zs : List Finding) → Is E.the-row r (me r ∷ []) → length zs ≡ length ys → Lists width counts number u (now s) ys zs r
+  exits : (r : Total) (zs : List Finding) → Is E.the-row r (me r ∷ []) → length zs ≡ length ys → Lists (widthOf (now s)) counts number u (now s) ys zs r
       → ent 𝓤 (⋆ 𝓤 H A ((‵ (flft κ′ q′) ⊛ ‵ (flft κ q) ⊛ ‵ ftrue) ∷ ‵ (finally T.the-row γ zs) ∷ ‵ OwnS ∷ [])) (Post (me r))
   exits r zs gr len e =
       qed W ((‵ (flft κ′ q′) ⊛ ‵ (flft κ q) ⊛ ‵ ftrue) ∷ ‵ (finally T.the-row γ zs) ∷ ‵ OwnS ∷ []) ∵

@@ -43,9 +43,11 @@ use denote.Triple.Spec.{Meets, tripleOf}
 use denote.Triple.Table.{entered, cited}
 use denote.Triple.Walked.{says, Stays, gave-slice, stay-none-slice, walkOf, AllGo, goes-gave-slice, goes-none-slice, Walks, ends-at, walked, walk-meets}
 use denote.Exit.{yes}
+use Rattle.store.specs.Layout.{large, widthOf}
 use Rattle.rule.specs.declared.Finding.{Finding}
 use Rattle.rule.proofs.Finding as T
 use Rattle.sheet.specs.declared.Reading.{Reading}
+use Rattle.sheet.specs.laws.Width.{numbers-large}
 use Rattle.sheet.proofs.Reading as E
 use Rattle.sheet.proofs.Reading.Laws as E′
 use Rattle.trail.specs.declared.Opening.{Opening}
@@ -100,20 +102,25 @@ me r = EL.sum-val E.the-type E′.the-laws (E.the-type .to r)
 abbrev mn : List ℕ → Val
 mn ns = only (array-vals (uint-vals w32) ns)
 
+-- how many numbers the array has: as many as names need with the larger store
+abbrev manyNames : ℕ
+manyNames = numberCount large
+
 -- the array as it is made, all 0, and its machine value: by name, so that no step of the walk spells its numbers
 unfoldable blank : List ℕ
-blank = replicate numberCount 0
+blank = replicate manyNames 0
 
 unfoldable mb : Val
-mb = arrayVal (replicate numberCount (vint w32 0))
+mb = arrayVal (replicate manyNames (vint w32 0))
 
-mb-is : arrayVal (replicate numberCount (vint w32 0)) ≡ mb
+mb-is : arrayVal (replicate manyNames (vint w32 0)) ≡ mb
 unfolding mb
 mb-is = refl
 
-blank-long : length blank ≡ numberCount
+-- they suffice with any store
+blank-long : (s : List ℕ) → numberCount (widthOf s) ≤ length blank
 unfolding blank
-blank-long = length-replicate {A = ℕ} numberCount 0
+blank-long s = subst (λ (n : ℕ). numberCount (widthOf s) ≤ n) (sym (length-replicate {A = ℕ} manyNames 0)) (numbers-large s)
 
 -- so many zeros are an array, for any number
 each-blank : (n : ℕ) → shadow (each ℕ (u32 .own) (replicate n 0) (replicate n (vint w32 0)))
@@ -123,12 +130,12 @@ each-blank (suc n) = ((refl, lit< tt), each-blank n)
 zeros-are : (n : ℕ) → Is (Array u32 n) (replicate n 0) (arrayVal (replicate n (vint w32 0)) ∷ [])
 zeros-are n = (replicate n (vint w32 0), ((refl, length-replicate {A = ℕ} n 0), each-blank n))
 
-blank-is : Is (Array u32 numberCount) blank (mb ∷ [])
+blank-is : Is (Array u32 manyNames) blank (mb ∷ [])
 unfolding blank mb
-blank-is = zeros-are numberCount
+blank-is = zeros-are manyNames
 
 -- a slice can have so many numbers
-numbers-room : Room u32 numberCount
+numbers-room : Room u32 manyNames
 numbers-room = (lit< tt, lit< tt)
 
 -- what is stored in a local has the local's type, as the code has it: each is shown once, here, so that the walk compares no two spellings of a long type
@@ -141,8 +148,8 @@ module _ {M : Type 1} (𝓤 : URA M) (H : Heap 𝓤) (A : Atoms 𝓤) (W : Given
   answer-fit r g = EL.lawful E.the-type E′.the-laws 𝓤 H A W tt .typed r (me r ∷ []) g .0
 
   -- the array as it is made, at _4
-  blank-fit : Fit 4 (arrayVal (replicate numberCount (vint w32 0)))
-  blank-fit = array-lawful 𝓤 H A W u32 (uint-lawful 𝓤 H A W w32) numberCount .typed (replicate numberCount 0) (arrayVal (replicate numberCount (vint w32 0)) ∷ []) (zeros-are numberCount) .0
+  blank-fit : Fit 4 (arrayVal (replicate manyNames (vint w32 0)))
+  blank-fit = array-lawful 𝓤 H A W u32 (uint-lawful 𝓤 H A W w32) manyNames .typed (replicate manyNames 0) (arrayVal (replicate manyNames (vint w32 0)) ∷ []) (zeros-are manyNames) .0
 
   -- what `open` gives, at _5
   opening-fit : (p : Opening) (v : Val) → Is Q.the-row p (v ∷ []) → Fit 5 v
@@ -230,7 +237,7 @@ module _ {M : Type 1} (𝓤 : URA M) (H : Heap 𝓤) (A : Atoms 𝓤) (W : Given
 
   -- what the numbers own, lent for μ from the local l under the name δ
   abbrev OwnN : ℕ → Lft → GName → List ℕ → Fml
-  OwnN l μ δ ns = MutSlice (named 2) μ u32 .own (nref l δ ns) (nv l numberCount ∷ [])
+  OwnN l μ δ ns = MutSlice (named 2) μ u32 .own (nref l δ ns) (nv l manyNames ∷ [])
 
   -- what they own, shared for μ
   abbrev OwnM : ℕ → Lft → GName → List ℕ → Fml
@@ -263,12 +270,12 @@ module _ {M : Type 1} (𝓤 : URA M) (H : Heap 𝓤) (A : Atoms 𝓤) (W : Given
   -- what the triple of `open` binds outside: the store is lent again for the lifetime ν, under the name δ, and the array for μ, from the local l under the name ε
   abbrev to-open : ℕ → ℕ → GName → ℕ → GName → Open 𝓤 H A mem run .Ghost
   to-open ν μ δ l ε =
-      (((κ, (ν ∷ [], (μ ∷ [], tt))), (q, (fullShare, (fullShare, tt))), tt, (h, (sref δ ws, (nref l ε blank, (length ys, tt)))), (hv ∷ [], (sv ws ∷ [], (nv l numberCount ∷ [], (vint w64 (length ys) ∷ [], tt))))), tt)
+      (((κ, (ν ∷ [], (μ ∷ [], tt))), (q, (fullShare, (fullShare, tt))), tt, (h, (sref δ ws, (nref l ε blank, (length ys, tt)))), (hv ∷ [], (sv ws ∷ [], (nv l manyNames ∷ [], (vint w64 (length ys) ∷ [], tt))))), tt)
 
   -- what `open` asks
   goes-open : (ν μ : ℕ) (δ : GName) (l : ℕ) (ε : GName) → ent 𝓤 (⋆ 𝓤 H A (‵ OwnH ∷ (‵ (OwnW (ν ∷ []) δ) ⊛ ‵ (OwnN l (μ ∷ []) ε blank)) ∷ OpenTokens ν μ ∷ [])) (Open 𝓤 H A mem run .pre (to-open ν μ δ l ε))
   goes-open ν μ δ l ε =
-      qed W (‵ OwnH ∷ (‵ (OwnW (ν ∷ []) δ) ⊛ ‵ (OwnN l (μ ∷ []) ε blank)) ∷ OpenTokens ν μ ∷ []) ∵ says ! blank-long $ move ! (2 ∷ []) $ frame ! $
+      qed W (‵ OwnH ∷ (‵ (OwnW (ν ∷ []) δ) ⊛ ‵ (OwnN l (μ ∷ []) ε blank)) ∷ OpenTokens ν μ ∷ []) ∵ says ! (blank-long ws) $ move ! (2 ∷ []) $ frame ! $
       -- [what the sheet owns; what the store and the numbers own]
       move ! (1 ∷ []) $ split ! $ nothing ! $ owned ! usize (Is usize) (uint-makes 𝓤 H A W w64) (length ys) _ (refl, room .0) $ fjoin ! $
       move ! (2 ∷ 0 ∷ []) $ fjoin ! $ move ! (1 ∷ 0 ∷ []) $ fjoin ! $ move ! (1 ∷ 0 ∷ []) $ fjoin ! $ done !
@@ -294,12 +301,12 @@ module _ {M : Type 1} (𝓤 : URA M) (H : Heap 𝓤) (A : Atoms 𝓤) (W : Given
         alloc1 ! (λ l₀. alloc1 ! (λ l₁. alloc1 ! (λ l₂. alloc1 ! (λ l₃. alloc1 ! (λ l₄. alloc1 ! (λ l₅. alloc1 ! (λ l₆. alloc1 ! (λ l₇. alloc1 ! (λ l₈. alloc1 ! (λ l₉. alloc1 ! (λ l₁₀. alloc1 ! (λ l₁₁. alloc1 ! (λ l₁₂. alloc1 ! (λ l₁₃. alloc1 ! (λ l₁₄. alloc1 ! (λ l₁₅. alloc1 ! (λ l₁₆. alloc1 ! (λ l₁₇. alloc1 ! (λ l₁₈. alloc1 ! (λ l₁₉. alloc0 ! $ params1 ! $
         pass1 ! (init ! 36 refl (shr-slice-lawful 𝓤 H A W (named 0) κ u8 .typed h (hv ∷ []) gh .0)) $ pass1 ! (init ! 34 refl (tt, (tt, (record { fits = store .0 }, tt)))) $ pass1 ! (init ! 32 refl (tt, (tt, (record { fits = room .0 }, tt)))) $ pass0 ! $
         -- [_19; …; _18; …; .. _0; …; the tokens; what the parameters own]
-        assigns ! (rep ! numberCount (lit ! tt)) (from ! (stop !)) (init ! 30 refl (blank-fit 𝓤 H A W)) $
+        assigns ! (rep ! manyNames (lit ! tt)) (from ! (stop !)) (init ! 30 refl (blank-fit 𝓤 H A W)) $
         rewrite ! 30 (λ (w : Val). ‵ (fat fullShare (tyAt (code.function .locals) 4) l₄ 0 w)) mb-is refl $
         assigns ! (addr ! (from ! (fld ! refl (hop ! (look-in ! 34 (sub ! 0 refl (whole !))) (stop !))))) (from ! (stop !)) (init ! 22 refl (tt, tt)) $
         assigns ! (agg ! (and-then ! (load ! (from ! (stop !)) (look ! 22 refl)) (and-then ! (load ! (from ! (fld ! refl (stop !))) (look-in ! 34 (sub ! 1 refl (whole !)))) (no-more !)))) (from ! (stop !)) (init ! 20 refl (tt, (tt, (record { fits = store .0 }, tt)))) $
         assigns ! (addr ! (from ! (stop !))) (from ! (stop !)) (init ! 18 refl (tt, tt)) $
-        assigns ! (agg ! (and-then ! (load ! (from ! (stop !)) (look ! 18 refl)) (and-then ! (record { go = λ Kt k. via 𝓤 (Kt (vint w64 numberCount)) k (guardI 𝓤 (Fits w64 numberCount) (Kt (vint w64 numberCount)) (record { fits = lit< tt })) }) (no-more !)))) (from ! (stop !)) (init ! 16 refl (tt, (tt, (record { fits = lit< tt }, tt)))) $
+        assigns ! (agg ! (and-then ! (load ! (from ! (stop !)) (look ! 18 refl)) (and-then ! (record { go = λ Kt k. via 𝓤 (Kt (vint w64 manyNames)) k (guardI 𝓤 (Fits w64 manyNames) (Kt (vint w64 manyNames)) (record { fits = lit< tt })) }) (no-more !)))) (from ! (stop !)) (init ! 16 refl (tt, (tt, (record { fits = lit< tt }, tt)))) $
         assigns ! (of-opd ! (load ! (from ! (fld ! refl (stop !))) (look-in ! 32 (sub ! 1 refl (whole !))))) (from ! (stop !)) (init ! 14 refl (tt, record { fits = room .0 })) $
         move ! (41 ∷ []) $ fsplit ! $ move ! (1 ∷ []) $ fsplit ! $ move ! (1 ∷ []) $ fsplit ! $ move ! (1 ∷ []) $ drop ! $
         -- [what the list owns; what the store owns; what the sheet owns; _19; …; .. _0; …; the tokens]
@@ -308,9 +315,9 @@ module _ {M : Type 1} (𝓤 : URA M) (H : Heap 𝓤) (A : Atoms 𝓤) (W : Given
         lft-new ! tt (λ ν. move ! (8 ∷ 3 ∷ []) $
         use2 W (later (some (λ (δ : GName). ‵ (OwnW (ν ∷ []) δ) ⊛ ‵ (LentAgain u64 κ′ (ν ∷ []) q′ γs bs os δ ws)))) (lends-again u64 κ′ (ν ∷ []) q′ γs bs os 𝓤 H A W (named 1) (named 1) ws) $ await ! tt $ pick ! (λ δ. split ! $
         -- [the store lent again; what is kept of it; the new token; the list's; …; the sheet's; what the sheet owns, twice; what the list owns; _19; ..]
-        owned ! (Array u32 numberCount) (Is (Array u32 numberCount)) (array-makes 𝓤 H A W u32 (uint-makes 𝓤 H A W w32) numberCount) blank _ blank-is $
+        owned ! (Array u32 manyNames) (Is (Array u32 manyNames)) (array-makes 𝓤 H A W u32 (uint-makes 𝓤 H A W w32) manyNames) blank _ blank-is $
         lft-new ! tt (λ μ. move ! (41 ∷ 1 ∷ []) $
-        use2 W (later (some (λ (ζ : GName). ‵ (OwnN l₄ (μ ∷ []) ζ blank) ⊛ ‵ (Loan u32 numberCount (μ ∷ []) l₄ ζ)))) (lends-array u32 numberCount (μ ∷ []) l₄ 𝓤 H A W (named 2) tt numbers-room blank mb) $ await ! tt $ pick ! (λ ζ. split ! $
+        use2 W (later (some (λ (ζ : GName). ‵ (OwnN l₄ (μ ∷ []) ζ blank) ⊛ ‵ (Loan u32 manyNames (μ ∷ []) l₄ ζ)))) (lends-array u32 manyNames (μ ∷ []) l₄ 𝓤 H A W (named 2) tt numbers-room blank mb) $ await ! tt $ pick ! (λ ζ. split ! $
         -- [the numbers; their loan; its token; the store lent again; what is kept of it; its token; the list's; …; the sheet's; what the sheet owns, twice; what the list owns; _19; ..], without _4
         move ! (2 ∷ 7 ∷ []) $ join ! $ move ! (5 ∷ 0 ∷ []) $ join ! $ move ! (6 ∷ 0 ∷ []) $ join ! $
         -- [the tokens; the numbers; their loan; the store lent again; what is kept of it; the list's token; what the sheet owns, twice; what the list owns; _19; ..]
@@ -335,18 +342,18 @@ module _ {M : Type 1} (𝓤 : URA M) (H : Heap 𝓤) (A : Atoms 𝓤) (W : Given
         -- [the last words; the store's token; what the shared store owns; the array's token; the sheet's; the last numbers; the loan; the list's token; what the sheet owns; what the list owns; _19; …; ..]
         -- the array's lifetime is ended, it comes back, and is shared for another
         move ! (3 ∷ []) $ split ! $ lft-end ! tt $ move ! (0 ∷ 7 ∷ 6 ∷ []) $
-        use3 W (later (given (Is (Array u32 numberCount) ns (mn ns ∷ [])) (‵ (fat fullShare (tyAt (code.function .locals) 4) l₄ 0 (mn ns))))) (array-back u32 numberCount (μ ∷ []) l₄ 𝓤 H A W (uint-vals w32) (uint-tells w32) ζ ns) $ await ! tt $ learn ! (λ gn.
-        owned ! (Array u32 numberCount) (Is (Array u32 numberCount)) (array-makes 𝓤 H A W u32 (uint-makes 𝓤 H A W w32) numberCount) ns _ gn $
+        use3 W (later (given (Is (Array u32 manyNames) ns (mn ns ∷ [])) (‵ (fat fullShare (tyAt (code.function .locals) 4) l₄ 0 (mn ns))))) (array-back u32 manyNames (μ ∷ []) l₄ 𝓤 H A W (uint-vals w32) (uint-tells w32) ζ ns) $ await ! tt $ learn ! (λ gn.
+        owned ! (Array u32 manyNames) (Is (Array u32 manyNames)) (array-makes 𝓤 H A W u32 (uint-makes 𝓤 H A W w32) manyNames) ns _ gn $
         lft-new ! tt (λ ι. move ! (2 ∷ 1 ∷ []) $
-        use2 W (later (some (λ (η : GName). ‵ (OwnN l₄ (ι ∷ []) η ns) ⊛ ‵ (Loan u32 numberCount (ι ∷ []) l₄ η)))) (lends-array u32 numberCount (ι ∷ []) l₄ 𝓤 H A W (named 2) tt numbers-room ns (mn ns)) $ await ! tt $ pick ! (λ η. split ! $ move ! (0 ∷ 2 ∷ []) $
-        use2 W (later (some (λ (θ : GName). ‵ (OwnM l₄ (ι ∷ []) θ ns) ⊛ (‵ (finally u32 η ns) ⊛ ‵ (flft (ι ∷ []) fullShare))))) (shares u32 (ι ∷ []) (ι ∷ []) fullShare η l₄ 0 𝓤 H A W (named 2) (named 2) ns (nv l₄ numberCount ∷ [])) $ await ! tt $ pick ! (λ θ. split ! $ move ! (1 ∷ []) $ split ! $
+        use2 W (later (some (λ (η : GName). ‵ (OwnN l₄ (ι ∷ []) η ns) ⊛ ‵ (Loan u32 manyNames (ι ∷ []) l₄ η)))) (lends-array u32 manyNames (ι ∷ []) l₄ 𝓤 H A W (named 2) tt numbers-room ns (mn ns)) $ await ! tt $ pick ! (λ η. split ! $ move ! (0 ∷ 2 ∷ []) $
+        use2 W (later (some (λ (θ : GName). ‵ (OwnM l₄ (ι ∷ []) θ ns) ⊛ (‵ (finally u32 η ns) ⊛ ‵ (flft (ι ∷ []) fullShare))))) (shares u32 (ι ∷ []) (ι ∷ []) fullShare η l₄ 0 𝓤 H A W (named 2) (named 2) ns (nv l₄ manyNames ∷ [])) $ await ! tt $ pick ! (λ θ. split ! $ move ! (1 ∷ []) $ split ! $
         -- [the last numbers; their token; what they own; the loan; …; the last words; the store's token; what it owns; the sheet's token; the list's; what the sheet owns; what the list owns; _19; …; ..]
         assigns ! (of-opd ! (load ! (from ! (fld ! {τ = tyInt w64} {d = 48} refl (stop !))) (look-in ! 40 (sub ! {τs = fields} 1 {τ = tyInt w64} {d = 48} refl (whole !))))) (from ! (stop !)) (init ! 38 refl (tt, record { fits = owes .1 .0 .1 })) $
         assigns ! (of-opd ! (load ! (from ! (fld ! {τ = tyAt (code.function .locals) 7} {d = 56} refl (stop !))) (look-in ! 40 (sub ! {τs = fields} 2 {τ = tyAt (code.function .locals) 7} {d = 56} refl (whole !))))) (from ! (stop !)) (init ! 36 refl (trail-fit 𝓤 H A W (p .trail) (owes .1 .1 .0))) $
         assigns ! (addr ! (from ! (fld ! refl (hop ! (look-in ! 43 (sub ! 0 refl (whole !))) (stop !))))) (from ! (stop !)) (init ! 22 refl (tt, tt)) $
         assigns ! (agg ! (and-then ! (load ! (from ! (stop !)) (look ! 22 refl)) (and-then ! (load ! (from ! (fld ! refl (stop !))) (look-in ! 43 (sub ! 1 refl (whole !)))) (no-more !)))) (from ! (stop !)) (init ! 20 refl (tt, (tt, (record { fits = room .0 }, tt)))) $
         assigns ! (addr ! (from ! (stop !))) (from ! (stop !)) (init ! 18 refl (tt, tt)) $
-        assigns ! (agg ! (and-then ! (load ! (from ! (stop !)) (look ! 18 refl)) (and-then ! (record { go = λ Kt k. via 𝓤 (Kt (vint w64 numberCount)) k (guardI 𝓤 (Fits w64 numberCount) (Kt (vint w64 numberCount)) (record { fits = lit< tt })) }) (no-more !)))) (from ! (stop !)) (init ! 16 refl (tt, (tt, (record { fits = lit< tt }, tt)))) $
+        assigns ! (agg ! (and-then ! (load ! (from ! (stop !)) (look ! 18 refl)) (and-then ! (record { go = λ Kt k. via 𝓤 (Kt (vint w64 manyNames)) k (guardI 𝓤 (Fits w64 manyNames) (Kt (vint w64 manyNames)) (record { fits = lit< tt })) }) (no-more !)))) (from ! (stop !)) (init ! 16 refl (tt, (tt, (record { fits = lit< tt }, tt)))) $
         rewrite ! 16 (λ (m : ℕ). ‵ (fat fullShare (tyAt (code.function .locals) 17) l₁₇ 0 (sliceVal (l₄, 0) m))) (sym (gn .1 .0 .1)) refl $
         assigns ! (addr ! (from ! (fld ! refl (hop ! (look-in ! 45 (sub ! 0 refl (whole !))) (stop !))))) (from ! (stop !)) (init ! 14 refl (tt, tt)) $
         assigns ! (agg ! (and-then ! (load ! (from ! (stop !)) (look ! 14 refl)) (and-then ! (load ! (from ! (fld ! refl (stop !))) (look-in ! 45 (sub ! 1 refl (whole !)))) (no-more !)))) (from ! (stop !)) (init ! 12 refl (tt, (tt, (record { fits = store .0 }, tt)))) $
@@ -367,7 +374,7 @@ module _ {M : Type 1} (𝓤 : URA M) (H : Heap 𝓤) (A : Atoms 𝓤) (W : Given
         land ! (from ! (stop !)) (init ! 19 refl (subst (λ (z : Val). Holds (hasTy tyUnit z) × WT z) (sym (ap only unit)) (tt, tt))) $
         -- the array comes back
         split ! $ move ! (1 ∷ []) $ split ! $ move ! (1 ∷ []) $ split ! $ lft-end ! tt $ move ! (0 ∷ 8 ∷ 7 ∷ []) $
-        use3 W (later (given (Is (Array u32 numberCount) ns (mn ns ∷ [])) (‵ (fat fullShare (tyAt (code.function .locals) 4) l₄ 0 (mn ns))))) (array-back u32 numberCount (ι ∷ []) l₄ 𝓤 H A W (uint-vals w32) (uint-tells w32) η ns) $ await ! tt $ learn ! (λ _.
+        use3 W (later (given (Is (Array u32 manyNames) ns (mn ns ∷ [])) (‵ (fat fullShare (tyAt (code.function .locals) 4) l₄ 0 (mn ns))))) (array-back u32 manyNames (ι ∷ []) l₄ 𝓤 H A W (uint-vals w32) (uint-tells w32) η ns) $ await ! tt $ learn ! (λ _.
         -- [_4; the store's token; the sheet's; the list's; the last list; …; what the sheet owns; the last words; _19; …; ..]
         assigns ! (of-opd ! (load ! (from ! (fld ! {τ = tyAt (code.function .locals) 0} {d = 0} refl (stop !))) (look-in ! 36 (sub ! {τs = fields} 0 {τ = tyAt (code.function .locals) 0} {d = 0} refl (whole !))))) (from ! (stop !)) (init ! 45 refl (answer-fit 𝓤 H A W (p .answer) (owes .0))) $
         returns ! (look ! 45 refl) $ forget ! 0 refl $ forget ! 8 refl $ forget ! 10 refl $ forget ! 12 refl $ forget ! 14 refl $ forget ! 16 refl $ forget ! 18 refl $ forget ! 20 refl $ forget ! 22 refl $ forget ! 24 refl $ forget ! 26 refl $ forget ! 28 refl $ forget ! 30 refl $ forget ! 32 refl $ forget ! 34 refl $ forget ! 36 refl $ forget ! 39 refl $ forget ! 41 refl $ forget ! 43 refl $ forget ! 45 refl $

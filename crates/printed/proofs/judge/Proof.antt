@@ -1,7 +1,6 @@
 -- `printed::judge` meets its contract. Assumes nothing.
 use mathlib.Core.Path.{ap, _∙_}
 use native.Mathlib.Omega.{arith}
-use Rattle.store.specs.laws.Laid.{laid-of}
 use Rattle.sheet.specs.own.Pass.{countedIn}
 use Rattle.rule.specs.laws.Few.{few-findings}
 use Rattle.printed.specs.laws.Tally.{tallied}
@@ -9,11 +8,8 @@ use borrow.Author.Needs.{needs}
 use Rattle.printed.proofs.judge.Statement.{statement}
 use Rattle.printed.proofs.judge.Tie as tie
 
-layout-requires : tie.Need-layout-requires
-layout-requires c κs = search needs
-
 start-requires : tie.Need-start-requires
-start-requires c κs = (laid-of (c .layout .ensures) (c .before .before .before .before .before .pre .1 .store .long) (omega arith), rw (c .layout .ensures) (c .before .before .before .before .before .pre .1 .store))
+start-requires c κs = (c .before .before .before .before .pre .2, c .before .before .before .before .pre .1 .store)
 
 findings-requires : tie.Need-findings-requires
 findings-requires c κs = search needs
@@ -27,20 +23,19 @@ sub-t19 c = search needs
 add-t20 : tie.Need-add-t20
 add-t20 c =
     let z = c .before .before .before .before .before .before .before .before .start .ensures in
-    let pre = c .before .before .before .before .before .before .before .before .before .before .before .before .before .before .pre .1 in
-    omega (arith, c .before .before .counted .ensures ∙ ap countedIn (z .answer), few-findings (pre .store .fits .items) (z .findings), pre .total)
+    let pre = c .before .before .before .before .before .before .before .before .before .before .before .before .before .pre .1 in
+    omega (arith, c .before .before .counted .ensures ∙ ap countedIn (z .answer), few-findings {m = 512} (omega (arith, pre .store .fits .items, c .before .before .before .before .before .before .before .before .before .before .before .before .before .pre .2 .wide)) (z .findings), pre .total)
 
 same-length : tie.Need-same-length
 same-length c = search needs
 
 returns : tie.Need-returns
-returns c = rw (c .before .before .counted .ensures) (tallied (c .before .before .before .before .before .before .before .before .before .layout .ensures) (c .before .before .before .before .before .before .before .before .start .ensures) (c .before .before .before .before .before .findings .ensures .0) (c .before .before .before .before .before .findings .ensures .1))
+returns c = rw (c .before .before .counted .ensures) (tallied (c .before .before .before .before .before .before .before .before .start .ensures) (c .before .before .before .before .before .findings .ensures .0) (c .before .before .before .before .before .findings .ensures .1))
 
 pub judge-spec : {M : Type 1} → statement M
 judge-spec =
     tie.close
     (tie.spec
-    layout-requires
     start-requires
     findings-requires
     counted-requires

@@ -9,7 +9,6 @@ use lib.ListN.{length, take}
 use lib.Seq.{take-all}
 use Rattle.store.specs.declared.Counts.{Counts}
 use Rattle.store.specs.declared.Layout.{Layout}
-use Rattle.store.specs.Layout.{Holds, width}
 use Rattle.store.specs.own.Laid.{layoutOf}
 use Rattle.rule.specs.declared.Finding.{Finding}
 use Rattle.judge.specs.declared.Prepared.{Prepared}
@@ -29,14 +28,14 @@ take-min k fs = by-cases (decLt (length fs) k)
     (λ l. let e : min (length fs) k ≡ k = omega arith in ap (λ (i : ℕ). take i fs) e)
 
 -- a search that was begun and written is a rule that is judged
-pub tallied : {s : List ℕ} {l : Layout} {n : Counts} {k : ℕ} {u : Rule} {names : Names} {line : ℕ} {room exit : List ℕ} {b : Tally} {p : Prepared} {r : ℕ} → l ≡ layoutOf width → Starts s l n k u (b .left) p
+pub tallied : {s : List ℕ} {l : Layout} {n : Counts} {k : ℕ} {u : Rule} {names : Names} {line : ℕ} {room exit : List ℕ} {b : Tally} {p : Prepared} {r : ℕ} → Starts s l n k u (b .left) p
     → RuleLines s (p .search) (p .write) names line room (b .at) exit r → r ≤ b .at + findingBound * p .write
-    → Tallied s n k u names line room b exit (record { at = r; left = b .left - p .write; total = b .total + countedIn (p .answer) })
-tallied {s} {n = n} {k = k} {u = u} {names = names} {line = line} {room = room} {exit = exit} {b = b} {p = p} {r = r} e z w h =
+    → Tallied (l .width) s n k u names line room b exit (record { at = r; left = b .left - p .write; total = b .total + countedIn (p .answer) })
+tallied {s} {n = n} {k = k} {u = u} {names = names} {line = line} {room = room} {exit = exit} {b = b} {p = p} {r = r} z w h =
     let text : take (p .write) (z .list) ≡ take (b .left) (z .list) = ap (λ (i : ℕ). take i (z .list)) (z .write) ∙ take-min (b .left) (z .list) in
     record {
       list = z .list;
-      findings = subst (λ (a : Layout). Findings (Holds (a .width) n s) n k u (z .list)) e (z .findings);
+      findings = z .findings;
       wrote = subst (λ (fs : List Finding). Wrote room (b .at) (linesText names line fs) exit r) text (w .wrote (z .list) (z .coming) (omega (arith, z .write)));
       left = omega (arith, z .write);
       total = ap (λ (t : ℕ). b .total + t) (ap countedIn (z .answer));

@@ -4,7 +4,7 @@ use mathlib.Core.List.{List, [], _∷_, _++_}
 use Prim.Native.Nat.{ℕ, _+_, _*_, _-_, _≤_, _<_}
 use lib.ListN.{length, getD, take}
 use Rattle.store.specs.declared.Counts.{Counts}
-use Rattle.store.specs.Layout.{ClosedStore, Holds, width}
+use Rattle.store.specs.Layout.{ClosedStore, Holds}
 use Rattle.rule.specs.declared.Finding.{Finding}
 use Rattle.rule.specs.declared.Rule.{Rule}
 use Rattle.judge.specs.declared.Search.{Search}
@@ -33,17 +33,17 @@ pub record RuleLines (s : List ℕ) (first : Search) (n : ℕ) (names : Names) (
 abbrev pub findingBound : ℕ
 findingBound = 93
 
--- one rule more can be printed and counted: the store s is closed, and the place and the total are small
-pub record Tallying (s : List ℕ) (n : Counts) (b : Tally) : Type 0 where
-  pub store : ClosedStore width n s
+-- one rule more can be printed and counted: the store s, of row width W, is closed, and the place and the total are small
+pub record Tallying (W : ℕ) (s : List ℕ) (n : Counts) (b : Tally) : Type 0 where
+  pub store : ClosedStore W n s
   pub left : b .left ≤ printLimit
   pub at : b .at < 500000
-  pub total : b .total < 1000000000
+  pub total : b .total < 10000000000
 
 -- the findings of the rule u, with the number k and in a line: as many as were left to print are written, and all are counted
-pub record Tallied (s : List ℕ) (n : Counts) (k : ℕ) (u : Rule) (names : Names) (line : ℕ) (room : List ℕ) (b : Tally) (exit : List ℕ) (r : Tally) : Type 0 where
+pub record Tallied (W : ℕ) (s : List ℕ) (n : Counts) (k : ℕ) (u : Rule) (names : Names) (line : ℕ) (room : List ℕ) (b : Tally) (exit : List ℕ) (r : Tally) : Type 0 where
   pub list : List Finding
-  pub findings : Findings (Holds width n s) n k u list
+  pub findings : Findings (Holds W n s) n k u list
   pub wrote : Wrote room (b .at) (linesText names line (take (b .left) list)) exit (r .at)
   pub left : r .left ≡ b .left - length list
   pub total : r .total ≡ b .total + length list

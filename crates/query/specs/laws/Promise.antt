@@ -11,7 +11,7 @@ use lib.Seq.{sets, sets-eq}
 use Rattle.logic.specs.Lowest.{Lowest, NoneApplies}
 use Rattle.logic.specs.laws.Lowest.{lowest-unique}
 use Rattle.store.specs.declared.Counts.{Counts}
-use Rattle.store.specs.Layout.{Fits, width}
+use Rattle.store.specs.Layout.{Fits, large}
 use Rattle.rule.specs.declared.Rule.{Rule}
 use Rattle.rule.specs.Form.{WellFormed, RuleWithin}
 use Rattle.query.specs.declared.Outcome.{Outcome}
@@ -88,22 +88,22 @@ exact-length u r w h le = h .exact le ∙ sym (head-length (u .len) (u .nodes) (
 pub over-length : (u : Rule) (r : ℕ) → WellFormed u → Long (u .nodes) (u .head) r → itemLimit < r → itemLimit < size (queryOf u)
 over-length u r w h lt = subst (λ m. itemLimit < m) (sym (head-length (u .len) (u .nodes) (u .head) (w .head))) (h .over lt)
 
-pub spacious : (n : Counts) (u : Rule) (room : List ℕ) (r : ℕ) → Fits width n → WellFormed u → RuleWithin n u → Long (u .nodes) (u .head) r → r ≤ itemLimit → 4 * r ≤ length room → Spacious room (u .nodes) (u .head)
+pub spacious : (n : Counts) (u : Rule) (room : List ℕ) (r : ℕ) → Fits large n → WellFormed u → RuleWithin n u → Long (u .nodes) (u .head) r → r ≤ itemLimit → 4 * r ≤ length room → Spacious room (u .nodes) (u .head)
 spacious n u room r k w i h le fit = record { fits = subst (λ m. 4 * m ≤ length room) (h .exact le) fit; long = subst (λ m. m ≤ itemLimit) (h .exact le) le; small = small-head n k u w i }
 
 at-front : (l ws : List ℕ) → length ws ≤ length l → sets l 0 ws ≡ ws ++ drop (length ws) l
 at-front l ws h = let e : 0 + length ws ≡ length ws = omega arith in sets-eq ws l 0 (omega arith) ∙ ap (λ n. ws ++ drop n l) e
 
-pub long-refused : (n : Counts) (u : Rule) (room : List ℕ) (r : ℕ) → Fits width n → WellFormed u → RuleWithin n u → Long (u .nodes) (u .head) r → itemLimit < r → Compiles width n u room room (Refused TooLong)
+pub long-refused : (n : Counts) (u : Rule) (room : List ℕ) (r : ℕ) → Fits large n → WellFormed u → RuleWithin n u → Long (u .nodes) (u .head) r → itemLimit < r → Compiles large n u room room (Refused TooLong)
 long-refused n u room r k w i h lt = refused (refused-5 k w i (over-length u r w h lt)) refl
 
-pub room-refused : (n : Counts) (u : Rule) (room : List ℕ) (r : ℕ) → Fits width n → WellFormed u → RuleWithin n u → Long (u .nodes) (u .head) r → r ≤ itemLimit → length room < 4 * r → Compiles width n u room room (Refused Room)
+pub room-refused : (n : Counts) (u : Rule) (room : List ℕ) (r : ℕ) → Fits large n → WellFormed u → RuleWithin n u → Long (u .nodes) (u .head) r → r ≤ itemLimit → length room < 4 * r → Compiles large n u room room (Refused Room)
 room-refused n u room r k w i h le lt =
     let e : r ≡ size (queryOf u) = exact-length u r w h le in
     refused (refused-6 k w i (subst (λ m. m ≤ itemLimit) e le) (subst (λ m. length room < 4 * m) e lt)) refl
 
-pub filled-compiled : (n : Counts) (u : Rule) (before after : List ℕ) (r k : ℕ) {o : Outcome} → Fits width n → WellFormed u → RuleWithin n u → Long (u .nodes) (u .head) r → r ≤ itemLimit → 4 * r ≤ length before
-    → Filled before after (u .nodes) (u .head) → k ≡ answersOf (u .head) → o ≡ Compiled r k → Compiles width n u before after o
+pub filled-compiled : (n : Counts) (u : Rule) (before after : List ℕ) (r k : ℕ) {o : Outcome} → Fits large n → WellFormed u → RuleWithin n u → Long (u .nodes) (u .head) r → r ≤ itemLimit → 4 * r ≤ length before
+    → Filled before after (u .nodes) (u .head) → k ≡ answersOf (u .head) → o ≡ Compiled r k → Compiles large n u before after o
 filled-compiled n u before after r k f w i h le fit d a q =
     let e : r ≡ size (queryOf u) = exact-length u r w h le in
     let m : 4 * size (queryOf u) ≤ length before = subst (λ z. 4 * z ≤ length before) e fit in

@@ -4,7 +4,7 @@ use Prim.Native.Nat.{ℕ, zero, suc, _≤_, _<_}
 use native.Mathlib.Omega.{arith}
 use lib.ListN.{take}
 use Rattle.store.specs.declared.Counts.{Counts}
-use Rattle.store.specs.Layout.{Fits, width}
+use Rattle.store.specs.Layout.{Fits, large}
 use Rattle.rule.specs.declared.Head.{Head}
 use Rattle.rule.specs.declared.Head.the-variants.{Sub, RoleSub, Chain, Ref, Irr, Dis, In, Rel, NoRel, Same, Differ}
 use Rattle.rule.specs.declared.Node.{Node}
@@ -18,7 +18,7 @@ use Rattle.body.specs.own.Writing.{SmallRole, SmallPath, Small}
 use Rattle.query.specs.own.Filling.{SmallHead}
 use Rattle.store.specs.Cell.{DeclaredItem}
 
-module _ (n : Counts) (f : Fits width n) where
+module _ (n : Counts) (f : Fits large n) where
   small-item : (a : ℕ) → DeclaredItem n a → a < firstItem
   small-item a l = omega (arith, f .items)
 

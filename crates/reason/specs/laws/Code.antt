@@ -1,14 +1,15 @@
 -- Laws of statements as numbers. Assumes nothing.
 use mathlib.Core.Path.{_≡_, refl, ap}
 use mathlib.Core.Bool.{Bool, true, false}
-use Prim.Native.Nat.{ℕ, _+_, _*_, _/_, _%_, _<_}
+use Prim.Native.Nat.{ℕ, _+_, _*_, _/_, _%_, _≤_, _<_}
 use native.Mathlib.Omega.{arith}
 use borrow.Author.Tests.{ne-eqb}
 use Rattle.store.specs.declared.Counts.{Counts}
 use Rattle.store.specs.declared.Statement.{Statement}
 use Rattle.store.specs.Cell.{Cell, Within, cellOf}
 use Rattle.store.specs.Cell.Cell.{Same, Under, RoleUnder, In, Link}
-use Rattle.store.specs.Layout.{Fits, width}
+use Rattle.store.specs.Layout.{Fits}
+use Rattle.store.specs.own.Laid.{widest}
 use Rattle.reason.specs.own.Code.{Small, SmallCell, cellAt, cellBy, roleKind}
 
 -- the cell of a number made of parts
@@ -42,13 +43,13 @@ pub role-kind-small : {n : ℕ} (u : Bool) → n ≡ roleKind u → n < 8
 role-kind-small true e = omega arith
 role-kind-small false e = omega arith
 
-within-cell : {n : Counts} (c : Cell) → Within n c → Fits width n → SmallCell c
-within-cell (Same a b) w f = (omega (arith, w .0, f .items), omega (arith, w .1, f .items))
-within-cell (Under a b) w f = (omega (arith, w .0, f .concepts), omega (arith, w .1, f .concepts))
-within-cell (RoleUnder r u s) w f = (omega (arith, w .0, f .roles), omega (arith, w .1, f .roles))
-within-cell (In a b) w f = (omega (arith, w .0, f .items), omega (arith, w .1, f .concepts))
-within-cell (Link r a b) w f = (omega (arith, w .0, f .roles), omega (arith, w .1, f .items), omega (arith, w .2, f .items))
+within-cell : {W : ℕ} {n : Counts} (c : Cell) → W ≤ widest → Within n c → Fits W n → SmallCell c
+within-cell (Same a b) h w f = (omega (arith, w .0, f .items, h), omega (arith, w .1, f .items, h))
+within-cell (Under a b) h w f = (omega (arith, w .0, f .concepts), omega (arith, w .1, f .concepts))
+within-cell (RoleUnder r u s) h w f = (omega (arith, w .0, f .roles), omega (arith, w .1, f .roles))
+within-cell (In a b) h w f = (omega (arith, w .0, f .items, h), omega (arith, w .1, f .concepts))
+within-cell (Link r a b) h w f = (omega (arith, w .0, f .roles), omega (arith, w .1, f .items, h), omega (arith, w .2, f .items, h))
 
--- a statement within counts that fit has small numbers
-pub within-small : {n : Counts} (s : Statement) → Within n (cellOf s) → Fits width n → Small s
-within-small s w f = within-cell (cellOf s) w f
+-- a statement within counts that fit in any store has small numbers
+pub within-small : {W : ℕ} {n : Counts} (s : Statement) → W ≤ widest → Within n (cellOf s) → Fits W n → Small s
+within-small s h w f = within-cell (cellOf s) h w f

@@ -7,7 +7,7 @@ use Prim.Native.Nat.{ℕ, _*_, _≤_, _<_}
 use lib.ListN.{length, getD}
 use Rattle.row.specs.own.Row.{rowHasb}
 use Rattle.store.specs.declared.Counts.{Counts}
-use Rattle.store.specs.Layout.{Fits, conceptLimit, width}
+use Rattle.store.specs.Layout.{Fits, conceptLimit, itemLimit}
 use Rattle.reason.specs.declared.Fact.{Fact}
 use Rattle.reason.specs.declared.Goal.{Goal}
 use Rattle.reason.specs.declared.Kind.{Kind}
@@ -15,11 +15,11 @@ use Rattle.reason.specs.declared.Kind.the-variants as kind
 use Rattle.reason.specs.declared.Route.{Route}
 use Rattle.reason.specs.declared.Way.{Way}
 use Rattle.reason.specs.own.Code.{AllWithin, Coded, cellAt}
-use Rattle.reason.specs.own.Fact.{Found, Meets, factOf, kindAbove, placesAbove, straight, turned}
+use Rattle.reason.specs.own.Fact.{Found, Meets, aboveWidth, factOf, kindAbove, placesAbove, straight, turned}
 use Rattle.reason.specs.Part.{Minimal}
 use Rattle.reason.specs.own.Picked.{markWords, picked}
 use Rattle.reason.specs.own.Promise.{Clear}
-use Rattle.reason.specs.own.Seek.{Tabled, leadsb, nodeLimit}
+use Rattle.reason.specs.own.Seek.{Tabled, leadsb}
 use Rattle.store.specs.Cell.{DeclaredItem}
 
 -- the places between which steps of a kind lead
@@ -28,48 +28,54 @@ placesOf n kind.Same = n .items
 placesOf n kind.Under = placesAbove
 placesOf n kind.Role = placesAbove
 
+-- the words of a row in the table of these steps
+abbrev pub rowOf : ℕ → Kind → ℕ
+rowOf W kind.Same = W
+rowOf W kind.Under = aboveWidth
+rowOf W kind.Role = aboveWidth
+
 -- the goal that steps lead from x to y
 abbrev pub plainGoal : ℕ → ℕ → Goal
 plainGoal x y = record { one = record { on = true; a = x; b = y; c = x; d = y }; other = record { on = false; a = x; b = y; c = x; d = y } }
 
 -- the way above of a route, open if the route is and its steps of "same" are in the table
-abbrev pub aboveBy : List ℕ → Route → Way
-aboveBy t r = record { on = r .on && (leadsb t (r .a) (r .b) && leadsb t (r .c) (r .d)); a = r .from; b = r .to; c = r .from; d = r .to }
+abbrev pub aboveBy : ℕ → List ℕ → Route → Way
+aboveBy W t r = record { on = r .on && (leadsb W t (r .a) (r .b) && leadsb W t (r .c) (r .d)); a = r .from; b = r .to; c = r .from; d = r .to }
 
 -- the way of "same" of a route, open if the route is and its steps above are in the table
 abbrev pub sameBy : List ℕ → Route → Way
-sameBy t r = record { on = r .on && leadsb t (r .from) (r .to); a = r .a; b = r .b; c = r .c; d = r .d }
+sameBy t r = record { on = r .on && leadsb aboveWidth t (r .from) (r .to); a = r .a; b = r .b; c = r .c; d = r .d }
 
 -- the steps above that lead from the fact f to g
-abbrev pub aboveGoal : List ℕ → Fact → Fact → Goal
-aboveGoal t f g = record { one = aboveBy t (straight f g); other = aboveBy t (turned f g) }
+abbrev pub aboveGoal : ℕ → List ℕ → Fact → Fact → Goal
+aboveGoal W t f g = record { one = aboveBy W t (straight f g); other = aboveBy W t (turned f g) }
 
 -- the steps of "same" that lead from the fact f to g
 abbrev pub sameGoal : List ℕ → Fact → Fact → Goal
 sameGoal t f g = record { one = sameBy t (straight f g); other = sameBy t (turned f g) }
 
 -- whether steps lead along a route, by the tables of "same" and of the steps above
-abbrev pub opensb : List ℕ → List ℕ → Route → Bool
-opensb t u r = aboveBy t r .on && leadsb u (r .from) (r .to)
+abbrev pub opensb : ℕ → List ℕ → List ℕ → Route → Bool
+opensb W t u r = aboveBy W t r .on && leadsb aboveWidth u (r .from) (r .to)
 
 -- whether steps lead from one fact to another, by the tables
-abbrev pub meetsb : List ℕ → List ℕ → Fact → Fact → Bool
-meetsb t u f g = opensb t u (straight f g) || opensb t u (turned f g)
+abbrev pub meetsb : ℕ → List ℕ → List ℕ → Fact → Fact → Bool
+meetsb W t u f g = opensb W t u (straight f g) || opensb W t u (turned f g)
 
 -- the numbers of a fact are below the limits
-pub record Small (f : Fact) : Type 0 where
+pub record Small (W : ℕ) (f : Fact) : Type 0 where
   pub above : f .above < conceptLimit
-  pub first : f .first < nodeLimit
-  pub second : f .second < nodeLimit
+  pub first : f .first < itemLimit W
+  pub second : f .second < itemLimit W
 
--- the numbers of a route are below the limit
-pub record Near (r : Route) : Type 0 where
-  pub from : r .from < nodeLimit
-  pub to : r .to < nodeLimit
-  pub a : r .a < nodeLimit
-  pub b : r .b < nodeLimit
-  pub c : r .c < nodeLimit
-  pub d : r .d < nodeLimit
+-- the numbers of a route are below the limits
+pub record Near (W : ℕ) (r : Route) : Type 0 where
+  pub from : r .from < itemLimit aboveWidth
+  pub to : r .to < itemLimit aboveWidth
+  pub a : r .a < itemLimit W
+  pub b : r .b < itemLimit W
+  pub c : r .c < itemLimit W
+  pub d : r .d < itemLimit W
 
 -- the numbers of a fact are below the counts or the limits
 pub record Bounded (n : Counts) (f : Fact) : Type 0 where
@@ -87,13 +93,13 @@ pub record Inside (n : Counts) (r : Route) : Type 0 where
   pub d : DeclaredItem n (r .d)
 
 -- the two tables say where steps lead: those of "same" and those above g
-pub record Tables (n : Counts) (g : Fact) (codes same above : List ℕ) : Type 0 where
-  pub of-same : Tabled same kind.Same (n .items) codes
-  pub of-above : Tabled above (kindAbove g) placesAbove codes
+pub record Tables (W : ℕ) (n : Counts) (g : Fact) (codes same above : List ℕ) : Type 0 where
+  pub of-same : Tabled W same kind.Same (n .items) codes
+  pub of-above : Tabled aboveWidth above (kindAbove g) placesAbove codes
 
 -- a fact that follows from the numbers given, which are within the counts
-pub record Aimed (n : Counts) (g : Fact) (codes : List ℕ) : Type 0 where
-  pub fits : Fits width n
+pub record Aimed (W : ℕ) (n : Counts) (g : Fact) (codes : List ℕ) : Type 0 where
+  pub fits : Fits W n
   pub within : AllWithin n codes
   pub few : length codes ≤ 64 * markWords
   pub ties : g .sort ≡ 0 → ⊥
@@ -121,10 +127,10 @@ pub record Beside (g : Fact) (codes up marks : List ℕ) (i : ℕ) : Type 0 wher
   pub minimal : Minimal (λ ls. Meets (Coded ls) (Coded (picked up codes)) (factAt codes i) g) codes (picked marks codes)
 
 -- a fact that follows, and the tables of where steps lead
-pub record Sighted (g : Fact) (codes same above : List ℕ) : Type 0 where
+pub record Sighted (W : ℕ) (g : Fact) (codes same above : List ℕ) : Type 0 where
   pub counts : Counts
-  pub aimed : Aimed counts g codes
-  pub tables : Tables counts g codes same above
+  pub aimed : Aimed W counts g codes
+  pub tables : Tables W counts g codes same above
 
 -- no mark is set yet
 pub record Fresh (marks : List ℕ) : Type 0 where

@@ -37,6 +37,10 @@ kindAbove g = cond (eqb (g .sort) 1) kind.Under kind.Role
 abbrev pub placesAbove : ℕ
 placesAbove = roleLimit + conceptLimit
 
+-- the words of a row in a table of such steps
+abbrev pub aboveWidth : ℕ
+aboveWidth = 1
+
 -- the way from one fact to another of the same sort
 abbrev pub straight : Fact → Fact → Route
 straight f g = record { on = eqb (f .sort) (g .sort); from = f .above; to = g .above; a = f .first; b = g .first; c = f .second; d = g .second }

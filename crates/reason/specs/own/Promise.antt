@@ -2,12 +2,13 @@
 use mathlib.Core.Path.{_≡_}
 use mathlib.Core.Bool.{false}
 use mathlib.Core.List.{List}
-use Prim.Native.Nat.{ℕ, _*_, _≤_}
+use Prim.Native.Nat.{ℕ, _*_, _≤_, _<_}
 use lib.ListN.{length}
 use Rattle.row.specs.own.Row.{rowHasb}
 use Rattle.store.specs.declared.Counts.{Counts}
 use Rattle.store.specs.Cell.{Cell, Follows}
-use Rattle.store.specs.Layout.{Fits, width}
+use Rattle.store.specs.Layout.{Fits, itemLimit}
+use Rattle.store.specs.own.Laid.{widest}
 use Rattle.reason.specs.own.Code.{AllWithin, Coded}
 use Rattle.reason.specs.Part.{Minimal}
 use Rattle.reason.specs.own.Picked.{markWords, picked}
@@ -20,12 +21,23 @@ FollowsCoded n c codes = Follows n (Coded codes) c
 abbrev pub Clear : List ℕ → Type 0
 Clear marks = (j : ℕ) → rowHasb marks j ≡ false
 
--- the cell c follows from the numbers given, which are within the counts, and no mark is set yet
-pub record Sought (n : Counts) (c : Cell) (codes marks : List ℕ) : Type 0 where
-  pub fits : Fits width n
+-- the words of a table of steps: a row of W words for each place that such a row has a bit for
+abbrev pub tableWords : ℕ → ℕ
+tableWords W = itemLimit W * W
+
+-- the words t have room for such a table
+pub record Lent (W : ℕ) (t : List ℕ) : Type 0 where
+  pub wide : W ≤ widest
+  pub long : tableWords W ≤ length t
+
+-- the cell c follows from the numbers given, which are within the counts, no mark is set yet, and the table has room for the items
+pub record Sought (W : ℕ) (n : Counts) (c : Cell) (codes table marks : List ℕ) : Type 0 where
+  pub fits : Fits W n
   pub within : AllWithin n codes
   pub few : length codes ≤ 64 * markWords
   pub follows : FollowsCoded n c codes
+  pub some : 0 < W
+  pub lent : Lent W table
   pub wide : length marks ≡ markWords
   pub clear : Clear marks
 

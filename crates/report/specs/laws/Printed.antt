@@ -25,14 +25,14 @@ line-at [] rest r = refl
 line-at (q ∷ done) rest r = line-at done rest r
 
 -- no rule is judged yet
-pub printed-start : (x : Said) (t room : List ℕ) (at : ℕ) → Printed x t [] room at room (record { at = at; left = printLimit; total = 0 })
+pub printed-start : (W : ℕ) (x : Said) (t room : List ℕ) (at : ℕ) → Printed W x t [] room at room (record { at = at; left = printLimit; total = 0 })
 unfolding findingsText
-printed-start x t room at = record { list = []; findings = none; wrote = wrote-none room at; left = refl; total = refl }
+printed-start W x t room at = record { list = []; findings = none; wrote = wrote-none room at; left = refl; total = refl }
 
 -- one rule more is judged
-pub printed-more : {x : Said} {t : List ℕ} {done : List SheetRule} {room mid exit : List ℕ} {at : ℕ} {b r : Tally} (q : SheetRule) (rest : List SheetRule) → x .rules ≡ done ++ q ∷ rest → Printed x t done room at mid b
-    → Tallied t (countsOf (x .names)) (length done) (q .rule) (x .names) (q .line) mid b exit r → Printed x t (done ++ q ∷ []) room at exit r
-printed-more {x} {t} {done} {room} {mid} {exit} {at} {b} {r} q rest e w z = record {
+pub printed-more : {W : ℕ} {x : Said} {t : List ℕ} {done : List SheetRule} {room mid exit : List ℕ} {at : ℕ} {b r : Tally} (q : SheetRule) (rest : List SheetRule) → x .rules ≡ done ++ q ∷ rest → Printed W x t done room at mid b
+    → Tallied W t (countsOf (x .names)) (length done) (q .rule) (x .names) (q .line) mid b exit r → Printed W x t (done ++ q ∷ []) room at exit r
+printed-more {W} {x} {t} {done} {room} {mid} {exit} {at} {b} {r} q rest e w z = record {
   list = w .list ++ z .list;
   findings = findings-snoc q (w .findings) (z .findings) (omega arith);
   wrote = subst (λ (u : List ℕ). Wrote room at u exit (r .at)) (sym text) (wrote-then (w .wrote) (z .wrote));
@@ -55,9 +55,9 @@ printed-more {x} {t} {done} {room} {mid} {exit} {at} {b} {r} q rest e w z = reco
     text = findings-more x printLimit (w .list) (z .list) ∙ ap (λ (u : List ℕ). findingsText x (take printLimit (w .list)) ++ u) here
 
 -- all rules are judged and the total is written: that is what is printed of the sheet
-pub printed-all : {sheet : List ℕ} {x : Said} {t room mid exit : List ℕ} {b : Tally} {at r : ℕ} → outcome sheet ≡ acceptedSheet x → Words 64 t → Held x t → Printed x t (x .rules) room at mid b
-    → Wrote mid (b .at) (totalText (b .total)) exit r → (text : List ℕ) × Prints sheet text × Wrote room at text exit r
-printed-all {sheet} {x} {t} {room} {mid} {exit} {b} {at} {r} o words held w z = (
+pub printed-all : {W : ℕ} {sheet : List ℕ} {x : Said} {t room mid exit : List ℕ} {b : Tally} {at r : ℕ} → outcome W sheet ≡ acceptedSheet x → Words 64 t → Held W x t → Printed W x t (x .rules) room at mid b
+    → Wrote mid (b .at) (totalText (b .total)) exit r → (text : List ℕ) × Prints W sheet text × Wrote room at text exit r
+printed-all {W} {sheet} {x} {t} {room} {mid} {exit} {b} {at} {r} o words held w z = (
   findingsText x (take printLimit (w .list)) ++ totalText (length (w .list)),
   accepted o words held (w .findings),
   wrote-then (w .wrote) (subst (λ (m : ℕ). Wrote mid (b .at) (totalText m) exit r) (w .total) z),

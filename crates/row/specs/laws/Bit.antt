@@ -9,7 +9,7 @@ use native.Mathlib.Omega.{arith}
 use native.Mathlib.Decide.{ℕ-discrete, decLt}
 use native.Mathlib.Numerals.{add-one, one-add}
 use borrow.Author.Tests.{eqb-true, eqb-false, eq-eqb}
-use lib.Arith.{digits-mod, lt-one, bin-ind}
+use lib.Arith.{digits-mod, lt-one}
 use lib.Pow.{pow-pos, pow-mono, shr-shr, shr-lt, shr-le, split}
 use lib.Bits.{bitOr, bitAnd, or-step, and-step, or-shr, and-shr}
 use lib.Count.{ones, ones-step}
@@ -93,21 +93,6 @@ or-bit a b k = ap (λ (x : ℕ). x % 2) (or-shr a b k) ∙ or-odd (a / 2 ^ k) (b
 
 and-bit : (a b k : ℕ) → bitAnd a b / 2 ^ k % 2 ≡ min (a / 2 ^ k % 2) (b / 2 ^ k % 2)
 and-bit a b k = ap (λ (x : ℕ). x % 2) (and-shr a b k) ∙ and-odd (a / 2 ^ k) (b / 2 ^ k)
-
-pub or-assoc : (a b c : ℕ) → bitOr (bitOr a b) c ≡ bitOr a (bitOr b c)
-or-assoc a =
-    bin-ind (λ (n : ℕ). (b c : ℕ) → bitOr (bitOr n b) c ≡ bitOr n (bitOr b c)) (λ b c. refl)
-    (λ n ih b c.
-    omega (
-      arith,
-      ih (b / 2) (c / 2),
-      or-step (bitOr n b) c,
-      or-step n (bitOr b c),
-      or-odd n b,
-      or-odd b c,
-      ap (λ (x : ℕ). bitOr x (c / 2)) (or-shr n b 1),
-      ap (bitOr (n / 2)) (or-shr b c 1),
-    )) a
 
 pub has-or : (a b k : ℕ) → Has (bitOr a b) k → Has a k ⊎ Has b k
 has-or a b k h = ⊎-elim (λ e. inl (record { bit = e })) (λ e. inr (record { bit = e })) (bit-max (a / 2 ^ k % 2) (b / 2 ^ k % 2) (sym (or-bit a b k) ∙ h .bit))

@@ -10,16 +10,15 @@ use native.Mathlib.Decide.{ℕ-discrete, decLt}
 use lib.Arith.{digits-mod}
 use lib.Bits.{bitAnd, bitXor, differ, xor-step, xor-shr}
 use lib.Count.{trailingZeros, under}
-use lib.ListN.{length, getD, set, length-set, List·getD-eq-default, length-replicate}
+use lib.ListN.{length, getD, set, length-set, List·getD-eq-default}
 use lib.Seq.{getD-set-same, getD-set-other}
 use Rattle.logic.specs.own.Decides.{Decides}
 use Rattle.row.specs.Bit.{Has}
 use Rattle.row.specs.own.Bit.{hasb, lowBits, LowestBit}
 use Rattle.row.specs.own.Row.{RowHas}
-use Rattle.row.specs.own.Change.{orIf, diagW}
-use Rattle.row.specs.own.Pick.{AllBelow, Alone, Marked, Met, Without, room, Least, Next, Empty}
+use Rattle.row.specs.own.Change.{orIf}
+use Rattle.row.specs.own.Pick.{AllBelow, Marked, Met, Without, room, Least, Next, Empty}
 use Rattle.row.specs.laws.Bit.{has?, moved, at-place, zero-none, half-has, and-has, and-left, and-right, has-pow, pow-has, at-bit, has-half, hasb-has, hasb-not, low-has, has-low, shift-has, has-shift}
-use Rattle.row.specs.laws.Diagonal.{diagW-on, diagW-off}
 use Rattle.row.specs.laws.Rows.{zero-word, zeros, orIf-has, orIf-keeps, orIf-gets}
 
 -- ---- a bit set
@@ -282,17 +281,6 @@ next-none r x at count f h l = record { from = h; within = omega arith; found = 
 -- words that are all 0 have no bit
 pub empty-zero : Empty (zeros room)
 empty-zero = record { len = refl; none = λ x h. zero-none (moved (zero-word room (x / 64)) h) }
-
--- words that are all 0, but for the bit of x
-pub alone-set : {v : ℕ} (x : ℕ) → x < 64 * room → v ≡ 2 ^ (x % 64) → Alone x (set (zeros room) (x / 64) v)
-alone-set {v} x l e = record { len = length-set (zeros room) (x / 64) v; words = λ h. go h (ℕ-discrete h (x / 64)) }
-  where
-    go : (h : ℕ) → Dec (h ≡ x / 64) → getD (set (zeros room) (x / 64) v) h 0 ≡ diagW x h
-    go h (yes p) =
-        ap (λ (i : ℕ). getD (set (zeros room) (x / 64) v) i 0) p
-        ∙ getD-set-same (zeros room) (x / 64) v 0 (omega (arith, length-replicate {A = ℕ} room 0))
-        ∙ diagW-on x h v p e
-    go h (no p) = getD-set-other (zeros room) (x / 64) h v 0 p ∙ zero-word room h ∙ diagW-off x h p
 
 -- the test of a bit decides
 pub decides-has : {b : Bool} (w k : ℕ) → b ≡ hasb w k → Decides b (Has w k)

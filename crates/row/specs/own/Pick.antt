@@ -8,7 +8,6 @@ use lib.Bits.{bitOr}
 use lib.ListN.{length, getD}
 use Rattle.row.specs.Bit.{Has}
 use Rattle.row.specs.own.Row.{RowHas}
-use Rattle.row.specs.own.Change.{diagW}
 
 -- how many words a row has that stands alone
 abbrev pub room : ℕ
@@ -18,11 +17,6 @@ room = 8
 pub record Empty (r : List ℕ) : Type 0 where
   pub len : length r ≡ room
   pub none : (x : ℕ) → ¬ (RowHas r x)
-
--- r, a row that stands alone, has the number x alone
-pub record Alone (x : ℕ) (r : List ℕ) : Type 0 where
-  pub len : length r ≡ room
-  pub words : (h : ℕ) → getD r h 0 ≡ diagW x h
 
 -- t is s, and has x too if `on`
 pub record Marked (on : Bool) (x : ℕ) (s t : List ℕ) : Type 0 where

@@ -1,5 +1,5 @@
 -- `saltreeve::add` meets its contract. Assumes nothing.
-use Rattle.saltreeve.specs.laws.Code.{adds-code}
+use Rattle.batch.specs.laws.Codes.{adds-code}
 use borrow.Author.Needs.{needs}
 use Rattle.saltreeve.proofs.add.Statement.{statement}
 use Rattle.saltreeve.proofs.add.Tie as tie

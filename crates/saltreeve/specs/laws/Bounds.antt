@@ -54,15 +54,15 @@ part-few (keep p) = omega (arith, part-few p)
 part-few (leave p) = omega (arith, part-few p)
 
 -- a reason has at most 6,592 lines
-pub lines-few : (sheet : List ℕ) (x : Said) {n : Counts} {c : Cell} {lines : List SheetStatement} → outcome sheet ≡ accepted x → Reason n c (x .statements) lines → length lines ≤ 6592
-lines-few sheet x o r = omega (arith, part-few (r .part), statements-few sheet x o)
+pub lines-few : (W : ℕ) (sheet : List ℕ) (x : Said) {n : Counts} {c : Cell} {lines : List SheetStatement} → outcome W sheet ≡ accepted x → Reason n c (x .statements) lines → length lines ≤ 6592
+lines-few W sheet x o r = omega (arith, part-few (r .part), statements-few W sheet x o)
 
 -- ---- the line and the number of a refusal
 
 -- a refusal has a line below a million and a number below a hundred, that of the store too
 pub reads-small : {sheet s t : List ℕ} {n j : ℕ} → Reads sheet s t (reading.Refused n j) → (n < 1000000) × (j < 100)
 reads-small {sheet} (wrong-size z e) = (omega arith, omega arith)
-reads-small {sheet} (refusedRead l o h) = let z = refused-small sheet o in (omega arith, z .1)
+reads-small {sheet} (refusedRead l o h) = let z = refused-small _ sheet o in (omega arith, z .1)
 
 -- ---- the concepts of a rule
 
@@ -121,8 +121,8 @@ from-sound k s x [] e h = subst Sound (ap saidOf e) h
 from-sound k s x (l ∷ ls) e h = let z = accepted-step k s x l ls e in from-sound (k + 1) (lineSaid k s l) x ls (z .1) (line-sound k s l (z .0) h)
 
 -- so it is with an accepted sheet
-sheet-sound : (sheet : List ℕ) (x : Said) → outcome sheet ≡ accepted x → Sound x
-sheet-sound sheet x o = from-sound 2 nothing x _ (accepted-start sheet x o .1) (record { few = omega arith; rules = tt })
+sheet-sound : (W : ℕ) (sheet : List ℕ) (x : Said) → outcome W sheet ≡ accepted x → Sound x
+sheet-sound W sheet x o = let a = accepted-start W sheet x o in from-sound 2 (nothing (a .0)) x _ (a .2) (record { few = omega arith; rules = tt })
 
 -- a node that is a name has a number below the count
 name-within : (n : Counts) (f : ℕ → Expr) (v : Node) (d : ℕ) → NodeWithin n v → build f v ≡ name (concept d) → d < n .concepts
@@ -143,9 +143,9 @@ sub-small {u} {c} {d} f s =
     omega (arith, f .few, name-within (f .counts) _ (nodeAt (u .nodes) (s .right)) d (f .good .within .nodes (s .right) (g .1)) (s .second))
 
 -- the concept of a finding is below 32
-pub concept-small : (sheet : List ℕ) {x : Said} {n : Counts} {t : List ℕ} {k a c d : ℕ} → outcome sheet ≡ accepted x → BrokenSub n x t k a c d → d < conceptLimit
-concept-small sheet {x} o b =
-    let z = sheet-sound sheet x o .rules in
+pub concept-small : (W : ℕ) (sheet : List ℕ) {x : Said} {n : Counts} {t : List ℕ} {k a c d : ℕ} → outcome W sheet ≡ accepted x → BrokenSub W n x t k a c d → d < conceptLimit
+concept-small W sheet {x} o b =
+    let z = sheet-sound W sheet x o .rules in
     let r = b .there in
     sub-small (fine-at (r .before) (record { line = r .line; rule = b .rule }) (r .after) (subst AllFine (r .is) z)) (b .names)
 
@@ -155,10 +155,10 @@ concept-small sheet {x} o b =
 pub explained-small : {sheet s t : List ℕ} {c : Cell} {before after : List ℕ} {r : Explained} → Explains sheet s t c before after r → SmallExplained r
 explained-small {sheet} (refusedCell a e) = reads-small a
 explained-small {sheet} (not-true l o h g e) = (omega arith, omega arith)
-explained-small {sheet} (found {x = x} l o h r e) = omega (arith, lines-few sheet x o r)
+explained-small {sheet} (found {x = x} l o h r e) = omega (arith, lines-few _ sheet x o r)
 
 -- for a finding
 pub finding-small : {sheet s t : List ℕ} {k a : ℕ} {before after : List ℕ} {r : FindingExplained} → ExplainsFinding sheet s t k a before after r → SmallFinding r
 finding-small {sheet} (refusedFinding a e) = reads-small a
 finding-small {sheet} (not-broken l o h g e) = (omega arith, omega arith)
-finding-small {sheet} (foundFinding {x = x} l o h b r e) = (omega (arith, lines-few sheet x o r), concept-small sheet o b)
+finding-small {sheet} (foundFinding {x = x} l o h b r e) = (omega (arith, lines-few _ sheet x o r), concept-small _ sheet o b)

@@ -1,5 +1,6 @@
 -- Laws of the sheet check. Assumes nothing.
-use mathlib.Core.Path.{_≡_, sym, subst}
+use mathlib.Core.Path.{_≡_, sym, subst, refl}
+use mathlib.Core.Logic.{inr}
 use mathlib.Core.List.{List, _++_}
 use Prim.Native.Nat.{ℕ, _≤_}
 use lib.IntN.{ℤ, pos}
@@ -8,6 +9,7 @@ use Rattle.row.specs.Bit.{Words}
 use native.Mathlib.Omega.{arith}
 use Rattle.text.specs.Text.{Wrote}
 use Rattle.text.specs.laws.Text.{wrote-text, wrote-whole}
+use Rattle.store.specs.Layout.{small, widthOf}
 use Rattle.sheet.specs.Promise.{Prints}
 use Rattle.sheet.specs.laws.Unique.{prints-unique}
 use Rattle.report.specs.Promise.{Pages, PagesIn, PrintsIn, textLimit}
@@ -22,8 +24,8 @@ use Rattle.handover.specs.laws.Room.{in-room, room-unique, room-written}
 -- ---- the text of a sheet is handed over
 
 module _ {sheet own page room exit : List ℕ} {n : ℕ} {r : ℤ} where
-  pub check-by : Pages sheet own page n → n ≤ length own → InRoom (Just (take n page)) room exit r → Checks sheet room exit r
-  check-by w l h = in-room (subst (Prints sheet) (sym (wrote-text (w .wrote) l)) (w .prints)) h
+  pub check-by : Pages small sheet own page n → n ≤ length own → InRoom (Just (take n page)) room exit r → Checks sheet room exit r
+  check-by w l h = in-room (subst (Prints small sheet) (sym (wrote-text (w .wrote) l)) (w .prints)) h
 
   pub check-in-by : {s t : List ℕ} → PagesIn sheet s t own page n → n ≤ length own → InRoom (Just (take n page)) room exit r → ChecksIn sheet s t room exit r
   check-in-by {s} w l h = record { store = w .left; text = in-room (subst (PrintsIn sheet s) (sym (wrote-text (w .wrote) l)) (w .prints)) h }
@@ -35,7 +37,7 @@ in-place {room} {exit} {n} {Text} {text} h w l =
     subst (λ (i : ℕ). InRoom Text room exit (pos i)) e (written h (omega arith) (wrote-whole w (omega arith)))
 
 module _ {sheet room exit : List ℕ} {n : ℕ} where
-  pub check-in-place : Pages sheet room exit n → n ≤ length room → Checks sheet room exit (pos n)
+  pub check-in-place : Pages small sheet room exit n → n ≤ length room → Checks sheet room exit (pos n)
   check-in-place w l = in-place (w .prints) (w .wrote) l
 
   pub check-in-in-place : {s t : List ℕ} → PagesIn sheet s t room exit n → n ≤ length room → ChecksIn sheet s t room exit (pos n)
@@ -54,9 +56,9 @@ check-in-unique v w a b = let e = room-unique (λ t u x y. prints-in-unique x y)
 -- ---- a room that always suffices
 
 -- the text of a sheet is written
-pub check-written : {sheet room exit : List ℕ} {r : ℤ} → textLimit ≤ length room → Checks sheet room exit r → (t : List ℕ) × Prints sheet t × (exit ≡ t ++ drop (length t) room) × (r ≡ pos (length t))
-check-written {sheet} = room-written textLimit (λ t h. prints-short sheet h)
+pub check-written : {sheet room exit : List ℕ} {r : ℤ} → textLimit small ≤ length room → Checks sheet room exit r → (t : List ℕ) × Prints small sheet t × (exit ≡ t ++ drop (length t) room) × (r ≡ pos (length t))
+check-written {sheet} = room-written (textLimit small) (λ t h. prints-short small sheet (inr refl) h)
 
 -- in a lent store too
-pub check-in-written : {sheet s t room exit : List ℕ} {r : ℤ} → textLimit ≤ length room → ChecksIn sheet s t room exit r → (u : List ℕ) × PrintsIn sheet s u × (exit ≡ u ++ drop (length u) room) × (r ≡ pos (length u))
-check-in-written {sheet} l h = room-written textLimit (λ t p. prints-in-short sheet p) l (h .text)
+pub check-in-written : {sheet s t room exit : List ℕ} {r : ℤ} → textLimit (widthOf s) ≤ length room → ChecksIn sheet s t room exit r → (u : List ℕ) × PrintsIn sheet s u × (exit ≡ u ++ drop (length u) room) × (r ≡ pos (length u))
+check-in-written {sheet} {s} l h = room-written (textLimit (widthOf s)) (λ t p. prints-in-short sheet s p) l (h .text)

@@ -8,26 +8,19 @@ use Rattle.row.specs.Bit.{Words}
 use Rattle.store.specs.declared.Counts.{Counts}
 use Rattle.closure.specs.declared.Answer.{Answer}
 use Rattle.closure.specs.declared.Answer.the-variants.{Cells, Refused}
-use Rattle.store.specs.Cell.{Cell}
-use Rattle.store.specs.Layout.{width}
-use Rattle.closure.specs.Promise.{Makes, Adds}
-use Rattle.closure.specs.laws.Refusals.{makes-unique, adds-unique, makes-small, adds-small}
-use Rattle.signed.specs.Codes.{codeOf}
-use Rattle.signed.specs.own.Small.{Small}
-use Rattle.saltreeve.specs.Code.{FreshCode, AddCode}
+use Rattle.store.specs.Layout.{widthOf}
+use Rattle.store.specs.laws.Width.{width-wide}
+use Rattle.closure.specs.Promise.{Makes}
+use Rattle.closure.specs.laws.Refusals.{makes-unique, makes-small}
+use Rattle.batch.specs.Codes.{codeOf}
+use Rattle.batch.specs.own.Small.{Small}
+use Rattle.saltreeve.specs.Code.{FreshCode}
 
--- the answers of the entry points are small
-pub makes-code : {n : Counts} {s t : List ℕ} (r : Answer) → Makes width n s t r → Small r
-makes-code (Cells m) x = omega (arith, makes-small x)
+-- the answer of making a fresh store is small
+pub makes-code : {n : Counts} {s t : List ℕ} (r : Answer) → Makes (widthOf s) n s t r → Small r
+makes-code {s = s} (Cells m) x = omega (arith, makes-small x, width-wide s)
 makes-code (Refused k) x = tt
 
-pub adds-code : {n : Counts} {c : Cell} {s t : List ℕ} (r : Answer) → Words 64 t → Adds width n c s t r → Small r
-adds-code (Cells m) w x = adds-small w x
-adds-code (Refused k) w x = tt
-
--- the C functions allow one result
+-- it allows one result
 pub fresh-code-unique : {n : Counts} {s t t′ : List ℕ} {r r′ : ℤ} → Words 64 t → Words 64 t′ → FreshCode n s t r → FreshCode n s t′ r′ → (t ≡ t′) × (r ≡ r′)
 fresh-code-unique w w′ x y = let e = makes-unique w w′ (x .makes) (y .makes) in (e .0, x .code ∙ ap codeOf (e .1) ∙ sym (y .code))
-
-pub add-code-unique : {n : Counts} {c : Cell} {s t t′ : List ℕ} {r r′ : ℤ} → Words 64 t → Words 64 t′ → AddCode n c s t r → AddCode n c s t′ r′ → (t ≡ t′) × (r ≡ r′)
-add-code-unique w w′ x y = let e = adds-unique w w′ (x .adds) (y .adds) in (e .0, x .code ∙ ap codeOf (e .1) ∙ sym (y .code))

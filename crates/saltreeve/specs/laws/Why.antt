@@ -5,11 +5,12 @@ use Prim.Native.Nat.{ℕ, _≤_, _<_}
 use native.Mathlib.Omega.{arith}
 use lib.IntN.{pos, negℤ}
 use lib.ListN.{length}
+use Rattle.store.specs.Layout.{small}
 use Rattle.answer.specs.Promise.{Replies}
 use Rattle.saltreeve.specs.Why.{Whys}
 use Rattle.handover.specs.Room.InRoom.{too-long, written}
 
-module _ {sheet question room exit : List ℕ} {n : ℕ} (w : Replies sheet question room exit n) where
+module _ {sheet question room exit : List ℕ} {n : ℕ} (w : Replies small sheet question room exit n) where
   -- a text that has no place in the room
   pub why-long : length room < n → Whys sheet question room exit (negℤ (pos 8))
   why-long h = too-long (w .answers) (omega (arith, w .fitted .long)) (w .fitted .left (omega (arith, w .fitted .long)))

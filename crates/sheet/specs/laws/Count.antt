@@ -2,14 +2,14 @@
 use mathlib.Core.Path.{_≡_, refl, sym, ap, _∙_, subst}
 use mathlib.Core.Bool.{Bool, true, false}
 use mathlib.Core.List.{List, [], _∷_, _++_, append-assoc, append-nil}
-use Prim.Native.Nat.{ℕ, _+_, _≤_}
+use Prim.Native.Nat.{ℕ, suc, _+_, _*_, _≤_}
 use native.Mathlib.Omega.{arith}
 use borrow.Author.Tests.{eq-eqb, ne-eqb}
 use lib.ListN.{length, length-append}
 use Rattle.store.specs.declared.Counts.{Counts}
 use Rattle.store.specs.declared.Layout.{Layout}
 use Rattle.store.specs.Cell.{Cell}
-use Rattle.store.specs.Layout.{Holds, size, width}
+use Rattle.store.specs.Layout.{Holds, size, widthOf}
 use Rattle.store.specs.own.Laid.{layoutOf}
 use Rattle.rule.specs.declared.Finding.{Finding}
 use Rattle.judge.specs.declared.Prepared.{Prepared}
@@ -22,7 +22,7 @@ use Rattle.sheet.specs.declared.Reading.the-variants as reading
 use Rattle.sheet.specs.declared.RuleLine.{RuleLine}
 use Rattle.field.specs.Names.{countsOf}
 use Rattle.sheet.specs.own.Pass.{Counted, Judges, Next, NextRule, Opened, Passing, Paused, Totalled, Wholly, countedIn, foundRule}
-use Rattle.sheet.specs.Promise.{FindingsFrom, FindingsIn, Held, Reads}
+use Rattle.sheet.specs.Promise.{FindingsFrom, FindingsIn, Held, Leaves, Reads}
 use Rattle.sheet.specs.Promise.FindingsFrom.{none, more}
 use Rattle.sheet.specs.Promise.Reads.{wrong-size, refused as refusedRead, accepted as acceptedRead}
 use Rattle.sheet.specs.Said.{Outcome, Said, SheetRule, outcome}
@@ -44,12 +44,12 @@ pub record Turn (sheet : List ℕ) (t : Table) (x : Said) (P : List SheetRule �
   pub holds : P done
 
 module _ {sheet : List ℕ} {t : Table} {x : Said} {P : List SheetRule → Type 0} {q : RuleLine} where
-  pub turn-start : Opened sheet t q → outcome sheet ≡ accepted x → x .names ≡ namesOf sheet t → P [] → Turn sheet t x P q 0
-  turn-start w o n h = record { done = []; next = w .rule x o n; number = refl; holds = h }
+  pub turn-start : (W : ℕ) → Opened sheet t q → outcome W sheet ≡ accepted x → x .names ≡ namesOf sheet t → P [] → Turn sheet t x P q 0
+  turn-start W w o n h = record { done = []; next = w .rule W x o n; number = refl; holds = h }
 
   -- from where the rules begin
-  pub turn-since : {b : Start} → Next sheet t (b .at) (b .line) q → Since sheet b → outcome sheet ≡ accepted x → x .names ≡ namesOf sheet t → P [] → Turn sheet t x P q 0
-  turn-since {b = b} w v o n h = record { done = []; next = w .rule x [] (passing-since sheet t x b v o n); number = refl; holds = h }
+  pub turn-since : (W : ℕ) {b : Start} → Next sheet t (b .at) (b .line) q → Since W sheet b → outcome W sheet ≡ accepted x → x .names ≡ namesOf sheet t → P [] → Turn sheet t x P q 0
+  turn-since W {b = b} w v o n h = record { done = []; next = w .rule x [] (passing-since W sheet t x b v o n); number = refl; holds = h }
 
   module _ {n : ℕ} (w : Turn sheet t x P q n) where
     -- no rule comes next: P holds of all
@@ -90,68 +90,71 @@ findings-snoc {C} {n} {k} {i} {gs = gs} r (more {r = q} {rs = rs} {fs = fs} {gs 
     subst (λ (ls : List Finding). FindingsFrom C n k (q ∷ (rs ++ r ∷ [])) ls) (sym (append-assoc fs hs gs)) (more b (findings-snoc r m a (omega (arith, e))))
 
 -- the findings of no rule, and of one more
-pub counted-none : (x : Said) (s : List ℕ) → Counted x s [] 0
-counted-none x s = record { list = []; findings = none; all = refl }
+pub counted-none : (W : ℕ) (x : Said) (s : List ℕ) → Counted W x s [] 0
+counted-none W x s = record { list = []; findings = none; all = refl }
 
-pub counted-more : {x : Said} {s : List ℕ} {done : List SheetRule} {total k room : ℕ} {l : Layout} {n : Counts} {p : Prepared} (r : SheetRule) → Counted x s done total → l ≡ layoutOf width → countsOf (x .names) ≡ n → k ≡ length done
-    → Starts s l n k (r .rule) room p → Counted x s (done ++ r ∷ []) (total + countedIn (p .answer))
-counted-more {x} {s} {done} {k = k} {n = n} r w e c i z =
+pub counted-more : {x : Said} {s : List ℕ} {done : List SheetRule} {total k room : ℕ} {l : Layout} {n : Counts} {p : Prepared} (r : SheetRule) → Counted (l .width) x s done total → countsOf (x .names) ≡ n → k ≡ length done
+    → Starts s l n k (r .rule) room p → Counted (l .width) x s (done ++ r ∷ []) (total + countedIn (p .answer))
+counted-more {x} {s} {done} {k = k} {l = l} {n = n} r w c i z =
     record {
       list = w .list ++ z .list;
       findings = findings-snoc r (w .findings) found (omega (arith, i));
       all = omega (arith, w .all, ap countedIn (z .answer), length-append (w .list) (z .list));
     }
   where
-    found : Findings (Holds width (countsOf (x .names)) s) (countsOf (x .names)) k (r .rule) (z .list)
-    found = rw c (subst (λ (a : Layout). Findings (Holds (a .width) n s) n k (r .rule) (z .list)) e (z .findings))
+    found : Findings (Holds (l .width) (countsOf (x .names)) s) (countsOf (x .names)) k (r .rule) (z .list)
+    found = rw c (z .findings)
 
 -- a rule counts few
-pub counted-few : {s : List ℕ} {k room : ℕ} {l : Layout} {n : Counts} {u : Rule} {p : Prepared} → n .items ≤ 128 → Starts s l n k u room p → countedIn (p .answer) ≤ 16512
+pub counted-few : {s : List ℕ} {k room : ℕ} {m : ℕ} {l : Layout} {n : Counts} {u : Rule} {p : Prepared} → n .items ≤ m → Starts s l n k u room p → countedIn (p .answer) ≤ m * suc m
 counted-few h z = omega (arith, ap countedIn (z .answer), few-findings h (z .findings))
 
 -- ---- the whole sheet
 
 -- a store of another length
-pub whole-size : (sheet s numbers : List ℕ) (c : Counts) (b : Start) → Tidy sheet (tableOf numbers c) → ¬ (length s ≡ size width) → Wholly sheet s s numbers (record { answer = reading.Refused 0 1; counts = c; start = b })
+pub whole-size : (sheet s numbers : List ℕ) (c : Counts) (b : Start) → Tidy sheet (tableOf numbers c) → ¬ (length s ≡ size (widthOf s)) → Wholly sheet s s numbers (record { answer = reading.Refused 0 1; counts = c; start = b })
 whole-size sheet s numbers c b h z = record { reads = wrong-size z refl; tidy = h; names = λ x l o. absurd (z l); start = λ x l o. absurd (z l) }
 
-reads-as : {sheet s t : List ℕ} {x : Said} {fs : List Finding} {n : Counts} {m k : ℕ} → n ≡ countsOf (x .names) → m ≡ length (x .rules) → k ≡ length fs → length s ≡ size width → outcome sheet ≡ accepted x → Held x t
-    → FindingsIn x t fs → Reads sheet s t (reading.Accepted n m k)
+reads-as : {sheet s t : List ℕ} {x : Said} {fs : List Finding} {n : Counts} {m k : ℕ} → n ≡ countsOf (x .names) → m ≡ length (x .rules) → k ≡ length fs → length s ≡ size (widthOf s) → outcome (widthOf s) sheet ≡ accepted x → Held (widthOf s) x t
+    → FindingsIn (widthOf s) x t fs → Reads sheet s t (reading.Accepted n m k)
 reads-as e f g l o h a = rw (e, f, g) (acceptedRead l o h a)
 
 -- an accepted sheet: its outcome, its store, its counts
-module _ {sheet s numbers t : List ℕ} {e : Ended} (w : Opens sheet s numbers t e) (z : e .why ≡ 0) where
-  pub opens-outcome : outcome sheet ≡ accepted (w .said)
+module _ {W : ℕ} {sheet s numbers t : List ℕ} {e : Ended} (w : Opens W sheet s numbers t e) (z : e .why ≡ 0) where
+  pub opens-outcome : outcome W sheet ≡ accepted (w .said)
   opens-outcome = w .ends ∙ rw (eq-eqb _ _ z)
 
-  pub opens-held : Held (w .said) t
+  pub opens-held : Held W (w .said) t
   opens-held = rw (eq-eqb _ _ z) at (w .leaves)
 
   opens-counts : countsOf (w .said .names) ≡ e .kept .counts
   opens-counts = ap countsOf (w .names) ∙ counts-of sheet (keptTable numbers e) (w .tidy)
 
-  pub opens-judges : Judges sheet (keptTable numbers e) t
-  opens-judges = record { tidy = w .tidy; sheetSaid = record { said = w .said; ends = opens-outcome; names = w .names }; store = rw opens-counts at (opens-held .store) }
+  pub opens-judges : Judges W sheet (keptTable numbers e) t
+  opens-judges = record { tidy = w .tidy; sheetSaid = record { width = W; said = w .said; ends = opens-outcome; names = w .names }; with = refl; store = rw opens-counts at (opens-held .store) }
 
-  pub whole-accepted : {total : ℕ} → length s ≡ size width → Totalled sheet (keptTable numbers e) t total
+  pub whole-accepted : {total : ℕ} → W ≡ widthOf s → length s ≡ size W → Totalled W sheet (keptTable numbers e) t total
       → Wholly sheet s t numbers (record { answer = reading.Accepted (e .kept .counts) (e .kept .marks .rules) total; counts = e .kept .counts; start = e .start })
-  whole-accepted {total} long c =
+  whole-accepted {total} v long c =
       let a = c (w .said) opens-outcome (w .names) in
+      let o : outcome (widthOf s) sheet ≡ accepted (w .said) = subst (λ (v : ℕ). outcome v sheet ≡ accepted (w .said)) v opens-outcome in
       record {
-        reads = reads-as (sym opens-counts) (sym (ap (λ (m : Marks). m .rules) (w .marks))) (a .all) long opens-outcome opens-held (a .findings);
+        reads = reads-as (sym opens-counts) (sym (ap (λ (m : Marks). m .rules) (w .marks))) (a .all) (subst (λ (u : ℕ). length s ≡ size u) v long) o
+            (subst (λ (v : ℕ). Held v (w .said) t) v opens-held) (subst (λ (v : ℕ). FindingsIn v (w .said) t (a .list)) v (a .findings));
         tidy = w .tidy;
-        names = λ x l o. ap (λ (y : Outcome). saidOf y .names) (sym o ∙ opens-outcome) ∙ w .names;
-        start = λ x l o. w .start z;
+        names = λ x l q. ap (λ (y : Outcome). saidOf y .names) (sym q ∙ o) ∙ w .names;
+        start = λ x l q. subst (λ (u : ℕ). Since u sheet (e .start)) v (w .start z);
       }
 
 -- a refused one
-pub whole-refused : {sheet s numbers t : List ℕ} {e : Ended} → length s ≡ size width → Opens sheet s numbers t e → (e .why ≡ 0 → ⊥)
+pub whole-refused : {W : ℕ} {sheet s numbers t : List ℕ} {e : Ended} → W ≡ widthOf s → length s ≡ size W → Opens W sheet s numbers t e → (e .why ≡ 0 → ⊥)
     → Wholly sheet s t numbers (record { answer = reading.Refused (e .line) (e .why); counts = e .kept .counts; start = e .start })
-whole-refused {sheet} {e = e} long w z =
-    let o : outcome sheet ≡ refused (e .line) (e .why) (w .said) = w .ends ∙ rw (ne-eqb _ _ z) in
+whole-refused {W} {sheet} {s} {t = t} {e = e} v long w z =
+    let o : outcome W sheet ≡ refused (e .line) (e .why) (w .said) = w .ends ∙ rw (ne-eqb _ _ z) in
+    let q = subst (λ (v : ℕ). outcome v sheet ≡ refused (e .line) (e .why) (w .said)) v o in
     record {
-      reads = refusedRead long o (rw (ne-eqb _ _ z) at (w .leaves));
+      reads = refusedRead (subst (λ (u : ℕ). length s ≡ size u) v long) q (subst (λ (v : ℕ). Leaves v (refused (e .line) (e .why) (w .said)) s t) v (rw (ne-eqb _ _ z) at (w .leaves)));
       tidy = w .tidy;
-      names = λ x l a. absurd (not-both (sym o ∙ a));
-      start = λ x l a. absurd (not-both (sym o ∙ a));
+      names = λ x l a. absurd (not-both (sym q ∙ a));
+      start = λ x l a. absurd (not-both (sym q ∙ a));
     }

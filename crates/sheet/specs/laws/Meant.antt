@@ -11,7 +11,7 @@ use Rattle.field.specs.declared.Form.the-variants as form
 use Rattle.field.specs.declared.RuleWord.{RuleWord}
 use Rattle.field.specs.Words.{bodyOf, formOf}
 use Rattle.field.specs.Due.{none}
-use Rattle.line.specs.Fault.{begun, headerFault, lineFault, sheetLimit}
+use Rattle.line.specs.Fault.{begun, headerFault, lineFault, roomBy, sheetLimit}
 use Rattle.line.specs.laws.Accepted.{line-accepted}
 use Rattle.saying.specs.Read.{ruleOf}
 use Rattle.saying.specs.Meant.{Meant, meaningOf, meantBy}
@@ -66,15 +66,15 @@ from-means k s x (l ∷ ls) e =
     from-means (k + 1) (lineSaid k s l) x ls (z .1) ∙ rw (a, append-assoc)
 
 -- the rules of an accepted sheet are those of its rule lines, in their order, with their numbers; line 1 is the header
-pub sheet-meant : (sheet : List ℕ) (x : Said) → outcome sheet ≡ accepted x → meanings (x .rules) ≡ linesMean (x .names) 2 (drop 1 (lines sheet))
+pub sheet-meant : (W : ℕ) (sheet : List ℕ) (x : Said) → outcome W sheet ≡ accepted x → meanings (x .rules) ≡ linesMean (x .names) 2 (drop 1 (lines sheet))
 unfolding outcome
-sheet-meant sheet x e = go (leb (length sheet) sheetLimit) (lines sheet) e
+sheet-meant W sheet x e = go (leb (length sheet) sheetLimit) (lines sheet) e
   where
-    after : (t : Bool) (l : List ℕ) (ls : List (List ℕ)) → cond t (outcomeFrom 2 nothing ls) (refused 1 (headerFault l) nothing) ≡ accepted x → meanings (x .rules) ≡ linesMean (x .names) 2 ls
-    after true l ls h = from-means 2 nothing x ls h
+    after : (t : Bool) (l : List ℕ) (ls : List (List ℕ)) → cond t (outcomeFrom 2 (nothing (roomBy l)) ls) (refused 1 (headerFault W l) (nothing 0)) ≡ accepted x → meanings (x .rules) ≡ linesMean (x .names) 2 ls
+    after true l ls h = from-means 2 (nothing (roomBy l)) x ls h
     after false l ls h = absurd (not-both h)
 
-    go : (t : Bool) (ls : List (List ℕ)) → cond t (outcomeOf ls) (refused 0 9 nothing) ≡ accepted x → meanings (x .rules) ≡ linesMean (x .names) 2 (drop 1 ls)
+    go : (t : Bool) (ls : List (List ℕ)) → cond t (outcomeOf W ls) (refused 0 9 (nothing 0)) ≡ accepted x → meanings (x .rules) ≡ linesMean (x .names) 2 (drop 1 ls)
     go true [] h = absurd (not-both h)
-    go true (l ∷ ls) h = after (eqb (headerFault l) 0) l ls h
+    go true (l ∷ ls) h = after (eqb (headerFault W l) 0) l ls h
     go false ls h = absurd (not-both h)

@@ -24,7 +24,7 @@ use Rattle.field.specs.Names.{Names}
 use Rattle.field.specs.Words.{at, Field, bodyOf, formOf}
 use Rattle.line.specs.declared.Marks.{Marks}
 use Rattle.field.specs.Due.{none}
-use Rattle.line.specs.Fault.{fieldsFault, formFault, headerFault, lineFault, sheetLimit}
+use Rattle.line.specs.Fault.{fieldsFault, formFault, headerFault, lineFault, roomBy, sheetLimit}
 use Rattle.saying.specs.Read.{ruleOf}
 use Rattle.stated.specs.Stated.{statementOf}
 use Rattle.sheet.specs.Demand3.{Rearranged, SameSaid, Stating, rulesOf}
@@ -102,17 +102,17 @@ one-more {A} {xs} {ys} {a} {b} e f z o = ⊎-elim (λ q. one-before b (f z q)) (
 module _ (k j : ℕ) (x y : Said) (s : SameSaid x y) where
   same-saying : (f : Form) (fs : List Field) → SameSaid (saying k x f fs) (saying j y f fs)
   same-saying form.Concept fs = record {
-    names = ap (λ (n : Names). record { concepts = n .concepts ++ (at 0 fs ∷ []); roles = n .roles; items = n .items }) (s .names);
+    names = ap (λ (n : Names). record { concepts = n .concepts ++ (at 0 fs ∷ []); roles = n .roles; items = n .items; room = n .room }) (s .names);
     statements = s .statements;
     rules = s .rules;
   }
   same-saying form.Role fs = record {
-    names = ap (λ (n : Names). record { concepts = n .concepts; roles = n .roles ++ (at 0 fs ∷ []); items = n .items }) (s .names);
+    names = ap (λ (n : Names). record { concepts = n .concepts; roles = n .roles ++ (at 0 fs ∷ []); items = n .items; room = n .room }) (s .names);
     statements = s .statements;
     rules = s .rules;
   }
   same-saying form.Item fs = record {
-    names = ap (λ (n : Names). record { concepts = n .concepts; roles = n .roles; items = n .items ++ (at 0 fs ∷ []) }) (s .names);
+    names = ap (λ (n : Names). record { concepts = n .concepts; roles = n .roles; items = n .items ++ (at 0 fs ∷ []); room = n .room }) (s .names);
     statements = s .statements;
     rules = s .rules;
   }
@@ -270,29 +270,30 @@ faultless-each k s (l ∷ ls) h z =
 
 -- ---- whole sheets
 
-accepted-by : (sheet l : List ℕ) (ls : List (List ℕ)) (y : Said) → length sheet ≤ sheetLimit → lines sheet ≡ l ∷ ls → headerFault l ≡ 0 → outcomeFrom 2 nothing ls ≡ accepted y → outcome sheet ≡ accepted y
+accepted-by : (W : ℕ) (sheet l : List ℕ) (ls : List (List ℕ)) (y : Said) → length sheet ≤ sheetLimit → lines sheet ≡ l ∷ ls → headerFault W l ≡ 0 → outcomeFrom 2 (nothing (roomBy l)) ls ≡ accepted y → outcome W sheet ≡ accepted y
 unfolding outcome
-accepted-by sheet l ls y h are z e = rw (le-leb _ _ h, are, eq-eqb _ _ z) e
+accepted-by W sheet l ls y h are z e = rw (le-leb _ _ h, are, eq-eqb _ _ z) e
 
 -- statement lines in another order, or said again, are accepted, and the same is said
-pub rearranged : {sheet other : List ℕ} {x : Said} → Rearranged sheet other → length other ≤ sheetLimit → outcome sheet ≡ accepted x → (y : Said) × (outcome other ≡ accepted y) × SameSaid x y
-rearranged {sheet} {other} {x} r h e =
-    let a = accepted-lines sheet (r .first) (r .front ++ (r .middle ++ r .back)) x (r .one) e in
-    let b = faultless 2 nothing x (r .front ++ (r .middle ++ r .back)) (a .2) in
+pub rearranged : (W : ℕ) {sheet other : List ℕ} {x : Said} → Rearranged sheet other → length other ≤ sheetLimit → outcome W sheet ≡ accepted x → (y : Said) × (outcome W other ≡ accepted y) × SameSaid x y
+rearranged W {sheet} {other} {x} r h e =
+    let blank = nothing (roomBy (r .first)) in
+    let a = accepted-lines W sheet (r .first) (r .front ++ (r .middle ++ r .back)) x (r .one) e in
+    let b = faultless 2 blank x (r .front ++ (r .middle ++ r .back)) (a .2) in
     let f = faultless-split (r .front) (b .0) in
     let k = numberAfter 2 (r .front) in
-    let s = linesSaid 2 nothing (r .front) in
+    let s = linesSaid 2 blank (r .front) in
     let m = faultless-split (r .middle) (f .1) in
     let stating : (l : List ℕ) → One l (r .middle′) → Stating l = λ l o. r .stating l (r .from l o) in
     let m′ = faultless-each k s (r .middle′) stating (λ l o. each-faultless (r .stating) (m .0) l (r .from l o)) in
     let same = after-same (r .to) (r .from) (after-lines k s (r .middle) (r .stating)) (after-lines k s (r .middle′) stating) in
     let back = same-lines (numberAfter k (r .middle′)) (linesSaid k s (r .middle′)) same (m .1) in
     let all = faultless-join (f .0) (faultless-join m′ (back .0)) in (
-      linesSaid 2 nothing (r .front ++ (r .middle′ ++ r .back)),
-      accepted-by other (r .first) (r .front ++ (r .middle′ ++ r .back)) _ h (r .another) (a .1) (faultless-accepted all),
-      subst (λ (y : Said). SameSaid x y) (sym (said-join 2 nothing (r .front) (r .middle′ ++ r .back) ∙ said-join k s (r .middle′) (r .back)))
+      linesSaid 2 blank (r .front ++ (r .middle′ ++ r .back)),
+      accepted-by W other (r .first) (r .front ++ (r .middle′ ++ r .back)) _ h (r .another) (a .1) (faultless-accepted all),
+      subst (λ (y : Said). SameSaid x y) (sym (said-join 2 blank (r .front) (r .middle′ ++ r .back) ∙ said-join k s (r .middle′) (r .back)))
           (subst (λ (y : Said). SameSaid y (linesSaid (numberAfter k (r .middle′)) (linesSaid k s (r .middle′)) (r .back)))
-          (sym (said-join 2 nothing (r .front) (r .middle ++ r .back) ∙ said-join k s (r .middle) (r .back)) ∙ b .1) (back .1)),
+          (sym (said-join 2 blank (r .front) (r .middle ++ r .back) ∙ said-join k s (r .middle) (r .back)) ∙ b .1) (back .1)),
     )
 
 -- the findings of rules do not ask for their lines

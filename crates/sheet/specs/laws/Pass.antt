@@ -16,7 +16,7 @@ use Rattle.field.specs.declared.Form.the-variants as form
 use Rattle.sheet.specs.declared.RuleLine.{RuleLine}
 use Rattle.field.specs.declared.RuleWord.{RuleWord}
 use Rattle.field.specs.Due.{none}
-use Rattle.line.specs.Fault.{headerFault, lineFault, lineLimit, sheetLimit}
+use Rattle.line.specs.Fault.{headerFault, lineFault, lineLimit, roomBy, sheetLimit}
 use Rattle.field.specs.Names.{Names}
 use Rattle.sheet.specs.declared.Start.{Start}
 use Rattle.sheet.specs.own.Pass.{LineRule, Passing, RuleIfReady, foundRule}
@@ -54,20 +54,27 @@ accepted-step k s x l ls e = go (eqb (lineFault (s .names) (marksOf s) l) 0) ref
     go false q h = let z : _≡_ {A = ℕ} 0 1 = cc in absurd (omega arith)
 
 -- an accepted sheet is not too long, its first line is the header, and the lines after it are accepted
-pub accepted-lines : (sheet l : List ℕ) (ls : List (List ℕ)) (x : Said) → lines sheet ≡ l ∷ ls → outcome sheet ≡ accepted x → (length sheet ≤ sheetLimit) × (headerFault l ≡ 0) × (outcomeFrom 2 nothing ls ≡ accepted x)
+pub accepted-lines : (W : ℕ) (sheet l : List ℕ) (ls : List (List ℕ)) (x : Said) → lines sheet ≡ l ∷ ls → outcome W sheet ≡ accepted x
+    → (length sheet ≤ sheetLimit) × (headerFault W l ≡ 0) × (outcomeFrom 2 (nothing (roomBy l)) ls ≡ accepted x)
 unfolding outcome
-accepted-lines sheet l ls x are e = go (leb (length sheet) sheetLimit) refl e
+accepted-lines W sheet l ls x are e = go (leb (length sheet) sheetLimit) refl e
   where
-    header : (t : Bool) → eqb (headerFault l) 0 ≡ t → cond t (outcomeFrom 2 nothing ls) (refused 1 (headerFault l) nothing) ≡ accepted x → (headerFault l ≡ 0) × (outcomeFrom 2 nothing ls ≡ accepted x)
+    header : (t : Bool) → eqb (headerFault W l) 0 ≡ t → cond t (outcomeFrom 2 (nothing (roomBy l)) ls) (refused 1 (headerFault W l) (nothing 0)) ≡ accepted x → (headerFault W l ≡ 0) × (outcomeFrom 2 (nothing (roomBy l)) ls ≡ accepted x)
     header true q h = (eqb-true _ _ q, h)
     header false q h = let z : _≡_ {A = ℕ} 0 1 = cc in absurd (omega arith)
 
-    go : (t : Bool) → leb (length sheet) sheetLimit ≡ t → cond t (outcomeOf (lines sheet)) (refused 0 9 nothing) ≡ accepted x → (length sheet ≤ sheetLimit) × (headerFault l ≡ 0) × (outcomeFrom 2 nothing ls ≡ accepted x)
+    go : (t : Bool) → leb (length sheet) sheetLimit ≡ t → cond t (outcomeOf W (lines sheet)) (refused 0 9 (nothing 0)) ≡ accepted x → (length sheet ≤ sheetLimit) × (headerFault W l ≡ 0) × (outcomeFrom 2 (nothing (roomBy l)) ls ≡ accepted x)
     go true q h = let a = header _ refl (rw are at h) in (leb-true _ _ q, a .0, a .1)
     go false q h = let z : _≡_ {A = ℕ} 0 1 = cc in absurd (omega arith)
 
-pub accepted-start : (sheet : List ℕ) (x : Said) → outcome sheet ≡ accepted x → (length sheet ≤ sheetLimit) × (outcomeFrom 2 nothing (partsFrom 10 sheet (endOf 10 sheet 0 + 1)) ≡ accepted x)
-accepted-start sheet x e = let a = accepted-lines sheet _ _ x (sym (parts-all 10 sheet) ∙ parts-next 10 sheet 0 zero-le) e in (a .0, a .2)
+pub accepted-start : (W : ℕ) (sheet : List ℕ) (x : Said) → outcome W sheet ≡ accepted x → (room : ℕ) × (length sheet ≤ sheetLimit) × (outcomeFrom 2 (nothing room) (partsFrom 10 sheet (endOf 10 sheet 0 + 1)) ≡ accepted x)
+accepted-start W sheet x e = let a = accepted-lines W sheet _ _ x (sym (parts-all 10 sheet) ∙ parts-next 10 sheet 0 zero-le) e in (_, a .0, a .2)
+
+-- a sheet says the same with every store with which it is accepted
+pub accepted-same : (W U : ℕ) (sheet : List ℕ) {x y : Said} → outcome W sheet ≡ accepted x → outcome U sheet ≡ accepted y → x ≡ y
+accepted-same W U sheet {x} {y} o q =
+    let are = sym (parts-all 10 sheet) ∙ parts-next 10 sheet 0 zero-le in
+    ap saidOf (sym (accepted-lines W sheet _ _ x are o .2) ∙ accepted-lines U sheet _ _ y are q .2)
 
 -- ---- one line
 
@@ -182,15 +189,15 @@ module _ {sheet : List ℕ} {t : Table} {x : Said} {done : List SheetRule} {at k
           rw (z .2) (passing-word (z .0) (z .1))
 
 -- the first line after the header
-pub passing-start : (sheet : List ℕ) (t : Table) (x : Said) (e : ℕ) → e ≡ endOf 10 sheet 0 → outcome sheet ≡ accepted x → x .names ≡ namesOf sheet t → Passing sheet t x [] (e + 1) 2
-passing-start sheet t x e ends o n =
-    let z = accepted-start sheet x o in
-    record { said = nothing; names = n; rules = refl; rest = rw ends (z .1); short = z .0; inside = omega (arith, ends, end-le 10 sheet 0 zero-le); near = omega arith }
+pub passing-start : (W : ℕ) (sheet : List ℕ) (t : Table) (x : Said) (e : ℕ) → e ≡ endOf 10 sheet 0 → outcome W sheet ≡ accepted x → x .names ≡ namesOf sheet t → Passing sheet t x [] (e + 1) 2
+passing-start W sheet t x e ends o n =
+    let z = accepted-start W sheet x o in
+    record { said = nothing (z .0); names = n; rules = refl; rest = rw ends (z .2); short = z .1; inside = omega (arith, ends, end-le 10 sheet 0 zero-le); near = omega arith }
 
 -- where the rules begin
-pub passing-since : (sheet : List ℕ) (t : Table) (x : Said) (b : Start) → Since sheet b → outcome sheet ≡ accepted x → x .names ≡ namesOf sheet t → Passing sheet t x [] (b .at) (b .line)
-passing-since sheet t x b w o n =
-    record { said = w .said; names = n; rules = w .rules; rest = w .rest ∙ o; short = accepted-start sheet x o .0; inside = w .inside; near = w .near }
+pub passing-since : (W : ℕ) (sheet : List ℕ) (t : Table) (x : Said) (b : Start) → Since W sheet b → outcome W sheet ≡ accepted x → x .names ≡ namesOf sheet t → Passing sheet t x [] (b .at) (b .line)
+passing-since W sheet t x b w o n =
+    record { said = w .said; names = n; rules = w .rules; rest = w .rest ∙ o; short = accepted-start W sheet x o .1; inside = w .inside; near = w .near }
 
 -- ---- what is done is the first part of all
 

@@ -19,13 +19,13 @@ use Rattle.sheet.specs.laws.Stands.{stands-statement}
 use Rattle.sheet.specs.laws.Taken.{statement-taken}
 use Rattle.line.specs.laws.Accepted.{right-short}
 
-module _ {sheet : List ℕ} {t : Table} {m : Marks} {s : List ℕ} {start : ℕ} {line : List ℕ} {good : Bool} {ends : List ℕ} (c : Comes sheet t m s start line good ends) where
+module _ {W : ℕ} {sheet : List ℕ} {t : Table} {m : Marks} {s : List ℕ} {start : ℕ} {line : List ℕ} {good : Bool} {ends : List ℕ} (c : Comes W sheet t m s start line good ends) where
   -- a line without a fault is to be taken
-  pub comes-takes : lineFault (namesOf sheet t) m line ≡ 0 → Takes sheet t m s start line
+  pub comes-takes : lineFault (namesOf sheet t) m line ≡ 0 → Takes W sheet t m s start line
   comes-takes z = record { said = c .said; stands = c .stands; right = z; is = c .is; inside = c .inside; short = c .short }
 
   -- and where no statement was found, it is none
-  pub comes-other : {r : StatementLine} → lineFault (namesOf sheet t) m line ≡ 0 → Finds (Plainly (namesOf sheet t) m line) r → r .found ≡ false → TakesOther t m s start line ends
+  pub comes-other : {r : StatementLine} → lineFault (namesOf sheet t) m line ≡ 0 → Finds (Plainly (namesOf sheet t) m line) r → r .found ≡ false → TakesOther W t m s start line ends
   comes-other z q u =
       record { sheet = sheet; takes = comes-takes z; looked = c .looked (right-short (namesOf sheet t) m line z); other = λ w f. q .fails u _ (right-plainly (namesOf sheet t) m line w z f) }
 
@@ -34,10 +34,10 @@ module _ {sheet : List ℕ} {t : Table} {m : Marks} {s : List ℕ} {start : ℕ}
     pub plain-within : Within (t .counts) (cellOf z)
     plain-within = named-within (c .stands .tidy) (p .stated .word) (p .stated .named .is) (p .stated .named)
 
-    pub plain-came : {s′ : List ℕ} → Adding (begun m) (t .counts) z s s′ → Came sheet t m s line 0 t (record { stated = true; rules = m .rules }) s′
+    pub plain-came : {s′ : List ℕ} → Adding W (begun m) (t .counts) z s s′ → Came W sheet t m s line 0 t (record { stated = true; rules = m .rules }) s′
     plain-came {s′} a = record { why = sym (p .right); taken = λ e k x st. more k x st; left = λ q. absurd (q refl) }
       where
-        more : (k : ℕ) (x : Said) → Stands sheet t m s x → Stands sheet t (record { stated = true; rules = m .rules }) s′ (lineSaid k x line)
+        more : (k : ℕ) (x : Said) → Stands W sheet t m s x → Stands W sheet t (record { stated = true; rules = m .rules }) s′ (lineSaid k x line)
         more =
             statement-taken (comes-takes (p .right)) (p .some) _ (sym (p .stated .form)) (p .stated .word) refl
             (λ k x st. stands-statement st k (p .stated .word) (drop 1 (fields line)) (a .begins) (rw (p .stated .named .is) at (a .keeps)))

@@ -9,7 +9,8 @@ use Rattle.text.specs.Date.{dated, dateShaped, daysIn, digit, twoDigits}
 use Rattle.text.specs.Name.{isName, lineByte, nameByte}
 use Rattle.text.specs.Split.{split}
 use Rattle.field.specs.Due.{fits}
-use Rattle.line.specs.Fault.{fieldsFault, formFault, headerFault, lineFault}
+use Rattle.store.specs.Layout.{small}
+use Rattle.line.specs.Fault.{fieldsFault, formFault, headerFault, lineFault, roomBy}
 use Rattle.field.specs.Names.{fieldFault, fieldFaults, lowerFault, nameFault, newFault, nodesIn}
 use Rattle.saying.specs.Read.{nodesAt, read, size}
 use Rattle.sheet.specs.Said.{Outcome, lineSaid, outcome, outcomeFrom}
@@ -23,7 +24,7 @@ ends (accepted x) = length (x .statements) + length (x .rules)
 
 -- a sheet of declarations, and more lines from line 6 on
 abbrev after : String → ℕ
-after s = ends (outcome (bytes "sheet\t1\nconcept\tA\nrole\tr\nitem\ta\nitem\tb\n" ++ bytes s))
+after s = ends (outcome small (bytes "sheet\t1\nconcept\tA\nrole\tr\nitem\ta\nitem\tb\n" ++ bytes s))
 
 pub readings : map after (
     -- whichever field it is in, the lowest
@@ -43,5 +44,5 @@ pub readings : map after (
     )
     ≡ (615 ∷ 615 ∷ 619 ∷ 612 ∷ 614 ∷ 612 ∷ 612 ∷ 912 ∷ 713 ∷ 713 ∷ 614 ∷ 614 ∷ 614 ∷ 615 ∷ 615 ∷ 615 ∷ 615 ∷ 615 ∷ 616 ∷ 617 ∷ 616 ∷ 0 ∷ 620 ∷ 621 ∷ 2 ∷ [])
 unfolding lower same place every split dateShaped dated daysIn digit twoDigits isName nameByte lineByte operatorOf lineForm ruleForm fits newFault nameFault fieldFault lowerFault fieldFaults nodesIn read size nodesAt
-    fieldsFault formFault lineFault lineSaid outcomeFrom headerFault outcome
+    fieldsFault formFault lineFault lineSaid outcomeFrom headerFault roomBy outcome
 readings = refl

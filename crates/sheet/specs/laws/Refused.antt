@@ -7,19 +7,19 @@ use native.Mathlib.Omega.{arith}
 use borrow.Author.Tests.{leb-true}
 use lib.Dec.{eqb, leb, ltb}
 use lib.ListN.{length}
-use Rattle.text.specs.Bytes.{every, same}
+use Rattle.text.specs.Bytes.{every}
 use Rattle.text.specs.Date.{dateShaped}
 use Rattle.text.specs.Name.{isName, lineByte}
 use Rattle.text.specs.Split.{fields, split}
 use Rattle.text.specs.laws.Split.{split-few}
-use Rattle.store.specs.Layout.{conceptLimit, itemLimit, roleLimit, width}
+use Rattle.store.specs.Layout.{conceptLimit, roleLimit}
 use Rattle.rule.specs.Form.{nodeLimit}
 use Rattle.field.specs.declared.Due.{Due}
 use Rattle.field.specs.declared.Due.the-variants as due
 use Rattle.field.specs.declared.Form.{Form}
 use Rattle.line.specs.declared.Marks.{Marks}
 use Rattle.field.specs.Due.{dues, fits, lineupOf, next, none}
-use Rattle.line.specs.Fault.{ended, fieldsFault, formFault, full, header, headerFault, lineFault, lineLimit, sheetLimit, unknown}
+use Rattle.line.specs.Fault.{ended, fieldsFault, formFault, full, headed, headerFault, lineFault, lineLimit, roomBy, sheetLimit, unknown}
 use Rattle.field.specs.Names.{Names, declared, fault, fieldFault, fieldFaults, isCount, lowerFault, nameFault, newFault, nodesIn, plain, reserved}
 use Rattle.field.specs.Words.{Field, bodyOf, formOf, sectionOf}
 use Rattle.sheet.specs.Said.{Said, lineSaid, marksOf, nothing, outcome, outcomeFrom, outcomeOf}
@@ -58,7 +58,7 @@ field-small : (n : Names) (d : Due) (f : Field) → fieldFault n d f < 100
 unfolding fieldFault
 field-small n due.NewConcept f = fault-small (not (isName f)) _ _ (omega arith) (fault-small (reserved f) _ _ (omega arith) (new-small conceptLimit (n .concepts) f))
 field-small n due.NewRole f = fault-small (not (isName f)) _ _ (omega arith) (new-small roleLimit (n .roles) f)
-field-small n due.NewItem f = fault-small (not (isName f)) _ _ (omega arith) (fault-small (dateShaped f) _ _ (omega arith) (new-small (itemLimit width) (n .items) f))
+field-small n due.NewItem f = fault-small (not (isName f)) _ _ (omega arith) (fault-small (dateShaped f) _ _ (omega arith) (new-small (n .room) (n .items) f))
 field-small n due.Concept f = fault-small (reserved f) _ _ (omega arith) (name-small (n .concepts) f)
 field-small n due.Role f = name-small (n .roles) f
 field-small n due.Item f = name-small (n .items) f
@@ -95,12 +95,12 @@ line-small n m l =
     (fault-small (not (every lineByte l)) _ _ (omega arith) (form-small n m (formOf (fields l)) (bodyOf (fields l)))))
 
 -- of line 1
-header-small : (l : List ℕ) → headerFault l < 100
+header-small : (W : ℕ) (l : List ℕ) → headerFault W l < 100
 unfolding headerFault
-header-small l =
+header-small W l =
     fault-small (ltb lineLimit (length l)) _ _ (omega arith)
     (fault-small (not (every lineByte l)) _ _ (omega arith)
-    (fault-small (not (same l header)) _ _ (omega arith) (omega arith)))
+    (fault-small (not (headed W l)) _ _ (omega arith) (omega arith)))
 
 -- ---- the line of a refusal
 
@@ -120,19 +120,19 @@ from-small k s x (l ∷ ls) {n} {j} e = go (eqb (lineFault (s .names) (marksOf s
     go false h more = let z = refused-same h in (omega (arith, z .0), omega (arith, z .1, line-small (s .names) (marksOf s) l))
 
 -- so is line 1
-of-small : (ls : List (List ℕ)) {n j : ℕ} {x : Said} → outcomeOf ls ≡ refused n j x → (n < 2 + length ls) × (j < 100)
-of-small [] e = let z = refused-same e in (omega (arith, z .0), omega (arith, z .1))
-of-small (l ∷ ls) {n} {j} {x} e = go (eqb (headerFault l) 0) e
+of-small : (W : ℕ) (ls : List (List ℕ)) {n j : ℕ} {x : Said} → outcomeOf W ls ≡ refused n j x → (n < 2 + length ls) × (j < 100)
+of-small W [] e = let z = refused-same e in (omega (arith, z .0), omega (arith, z .1))
+of-small W (l ∷ ls) {n} {j} {x} e = go (eqb (headerFault W l) 0) e
   where
-    go : (t : Bool) → cond t (outcomeFrom 2 nothing ls) (refused 1 (headerFault l) nothing) ≡ refused n j x → (n < 2 + suc (length ls)) × (j < 100)
-    go true h = let z = from-small 2 nothing x ls h in (omega (arith, z .0), z .1)
-    go false h = let z = refused-same h in (omega (arith, z .0), omega (arith, z .1, header-small l))
+    go : (t : Bool) → cond t (outcomeFrom 2 (nothing (roomBy l)) ls) (refused 1 (headerFault W l) (nothing 0)) ≡ refused n j x → (n < 2 + suc (length ls)) × (j < 100)
+    go true h = let z = from-small 2 (nothing (roomBy l)) x ls h in (omega (arith, z .0), z .1)
+    go false h = let z = refused-same h in (omega (arith, z .0), omega (arith, z .1, header-small W l))
 
 -- a refusal has a line below 100,000, and a number below 100
-pub refused-small : (sheet : List ℕ) {n j : ℕ} {x : Said} → outcome sheet ≡ refused n j x → (n < 100000) × (j < 100)
+pub refused-small : (W : ℕ) (sheet : List ℕ) {n j : ℕ} {x : Said} → outcome W sheet ≡ refused n j x → (n < 100000) × (j < 100)
 unfolding outcome
-refused-small sheet {n} {j} {x} e = go (leb (length sheet) sheetLimit) refl e
+refused-small W sheet {n} {j} {x} e = go (leb (length sheet) sheetLimit) refl e
   where
-    go : (t : Bool) → leb (length sheet) sheetLimit ≡ t → cond t (outcomeOf (split 10 sheet)) (refused 0 9 nothing) ≡ refused n j x → (n < 100000) × (j < 100)
-    go true q h = let z = of-small (split 10 sheet) h in (omega (arith, z .0, split-few 10 sheet, leb-true (length sheet) sheetLimit q), z .1)
+    go : (t : Bool) → leb (length sheet) sheetLimit ≡ t → cond t (outcomeOf W (split 10 sheet)) (refused 0 9 (nothing 0)) ≡ refused n j x → (n < 100000) × (j < 100)
+    go true q h = let z = of-small W (split 10 sheet) h in (omega (arith, z .0, split-few 10 sheet, leb-true (length sheet) sheetLimit q), z .1)
     go false q h = let z = refused-same h in (omega (arith, z .0), omega (arith, z .1))

@@ -37,8 +37,8 @@ all-last P d (x ∷ xs) y e h f zero = f zero
 all-last P d (x ∷ xs) y e h f (suc i) = all-last P d xs y e h (λ j. f (suc j)) i
 
 -- nothing is slight
-slight-nothing : Slight 2 nothing
-slight-nothing = record { names = λ i. omega arith; lines = λ i. omega arith; few = omega arith }
+slight-nothing : (room : ℕ) → Slight 2 (nothing room)
+slight-nothing room = record { names = λ i. omega arith; lines = λ i. omega arith; few = omega arith }
 
 -- a line more
 module _ (k : ℕ) (x : Said) (fs : List Field) (s : Slight k x) where
@@ -88,10 +88,10 @@ from-slight k x y (l ∷ ls) s e =
     rw z (from-slight (k + 1) (lineSaid k x l) y ls (line-slight k x l s (a .0)) (a .1))
 
 -- the whole sheet
-pub sheet-slight : (sheet : List ℕ) {x : Said} → outcome sheet ≡ accepted x → Slight (sheetLimit + 3) x
-sheet-slight sheet {x} e =
-    let a = accepted-start sheet x e in
+pub sheet-slight : (W : ℕ) (sheet : List ℕ) {x : Said} → outcome W sheet ≡ accepted x → Slight (sheetLimit + 3) x
+sheet-slight W sheet {x} e =
+    let a = accepted-start W sheet x e in
     let ls = partsFrom 10 sheet (endOf 10 sheet 0 + 1) in
-    let s = from-slight 2 nothing x ls slight-nothing (a .1) in
+    let s = from-slight 2 (nothing (a .0)) x ls (slight-nothing (a .0)) (a .2) in
     let b = parts-few 10 sheet (endOf 10 sheet 0 + 1) in
-    record { names = s .names; lines = λ i. omega (arith, s .lines i, a .0); few = s .few }
+    record { names = s .names; lines = λ i. omega (arith, s .lines i, a .1); few = s .few }

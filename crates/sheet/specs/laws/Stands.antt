@@ -3,11 +3,11 @@ use mathlib.Core.Path.{_≡_, refl, sym, _∙_, ap, subst}
 use mathlib.Core.Logic.{_⊎_, inl, inr}
 use mathlib.Core.Bool.{Bool, true, false, not, _||_, true≢false}
 use mathlib.Core.List.{List, [], _∷_, _++_, map}
-use Prim.Native.Nat.{ℕ, _+_, _<_}
+use Prim.Native.Nat.{ℕ, _+_, _≤_, _<_}
 use native.Mathlib.Omega.{arith}
 use borrow.Author.Tests.{lt-ltb}
 use lib.Dec.{ltb}
-use lib.ListN.{length-append, replicate}
+use lib.ListN.{length, length-append, replicate}
 use Rattle.logic.specs.Number.{One}
 use Rattle.logic.specs.Number.One.{first, later}
 use Rattle.logic.specs.laws.Number.{one-none}
@@ -15,7 +15,7 @@ use Rattle.store.specs.declared.Counts.{Counts}
 use Rattle.store.specs.declared.Statement.{Statement}
 use Rattle.store.specs.Cell.{Cell, Nothing, With, cellOf}
 use Rattle.store.specs.Cell.With.{old, new}
-use Rattle.store.specs.Layout.{Holds, size, width}
+use Rattle.store.specs.Layout.{Fits, Holds, itemLimit, size}
 use Rattle.closure.specs.Lines.{Stated}
 use Rattle.closure.specs.Lines.Stated.{stated}
 use Rattle.store.specs.Keeps.{Keeps}
@@ -32,20 +32,20 @@ use Rattle.field.specs.Words.{at, Field}
 use Rattle.sheet.specs.Said.{Said, StatedIn, saying}
 use Rattle.stated.specs.Stated.{statementOf}
 use Rattle.sheet.specs.own.Stands.{Begins, Stands}
-use Rattle.field.specs.own.Table.{Table, namesOf, tableOf}
+use Rattle.field.specs.own.Table.{Table, namesOf, roomOf, tableOf}
 use Rattle.field.specs.laws.Table.{counts-of}
-use Rattle.field.specs.laws.Declared.{DeclaredConcept, DeclaredItem, DeclaredRole, addConcept, addItem, addRole, moreConcepts, moreItems, moreRoles}
+use Rattle.field.specs.laws.Declared.{Declared, DeclaredConcept, DeclaredItem, DeclaredRole, addConcept, addItem, addRole, moreConcepts, moreItems, moreRoles}
 use Rattle.sheet.specs.laws.Settled.{none-last}
 
 -- ---- the store
 
 -- the words before the first statement or rule
-pub stopped-zero : (b : Bool) (x : Said) (s : List ℕ) → Stopped b x s → b ≡ false → s ≡ replicate (size width) 0
-stopped-zero true x s h e = absurd (true≢false e)
-stopped-zero false x s h e = h
+pub stopped-zero : (W : ℕ) (b : Bool) (x : Said) (s : List ℕ) → Stopped W b x s → b ≡ false → s ≡ replicate (size W) 0
+stopped-zero W true x s h e = absurd (true≢false e)
+stopped-zero W false x s h e = h
 
 -- a fresh store holds what follows from no statement
-pub keeps-none : {n : Counts} {s : List ℕ} → Keeps width n Nothing s → Keeps width n (Stated []) s
+pub keeps-none : {W : ℕ} {n : Counts} {s : List ℕ} → Keeps W n Nothing s → Keeps W n (Stated []) s
 keeps-none k = keeps-iff (λ c x. absurd x) none-stated k
   where
     none-stated : (c : Cell) → Stated [] c → Nothing c
@@ -70,8 +70,8 @@ one-split (z ∷ xs) (later o) = push (one-split xs o)
     push (inr e) = inr e
 
 -- one statement more
-keeps-more : {n : Counts} {xs : List Statement} {s t : List ℕ} (x : Statement) → Keeps width n (Stated xs) s → Keeps width n (With (Holds width n s) (cellOf x)) t → Keeps width n (Stated (xs ++ x ∷ [])) t
-keeps-more {n} {xs} {s} x k l = keeps-iff to from (keeps-step k l)
+keeps-more : {W : ℕ} {n : Counts} {xs : List Statement} {s t : List ℕ} (x : Statement) → Keeps W n (Stated xs) s → Keeps W n (With (Holds W n s) (cellOf x)) t → Keeps W n (Stated (xs ++ x ∷ [])) t
+keeps-more {W} {n} {xs} {s} x k l = keeps-iff to from (keeps-step k l)
   where
     to : (c : Cell) → With (Stated xs) (cellOf x) c → Stated (xs ++ x ∷ []) c
     to c (old (stated o)) = stated (one-before x o)
@@ -85,13 +85,13 @@ keeps-more {n} {xs} {s} x k l = keeps-iff to from (keeps-step k l)
     from c (stated o) = from-line (one-split xs o)
 
 -- begun before, or made fresh now
-pub begins-same : (b : Bool) (n : Counts) (s : List ℕ) → b ≡ true → Begins b n s s
-begins-same true n s e = refl
-begins-same false n s e = absurd (true≢false (sym e))
+pub begins-same : (W : ℕ) (b : Bool) (n : Counts) (s : List ℕ) → b ≡ true → Begins W b n s s
+begins-same W true n s e = refl
+begins-same W false n s e = absurd (true≢false (sym e))
 
-pub begins-fresh : (b : Bool) (n : Counts) (s t : List ℕ) → b ≡ false → Keeps width n Nothing t → Begins b n s t
-begins-fresh true n s t e k = absurd (true≢false e)
-begins-fresh false n s t e k = k
+pub begins-fresh : (W : ℕ) (b : Bool) (n : Counts) (s t : List ℕ) → b ≡ false → Keeps W n Nothing t → Begins W b n s t
+begins-fresh W true n s t e k = absurd (true≢false e)
+begins-fresh W false n s t e k = k
 
 -- one more at the end
 pub map-last : {A B : Type 0} (f : A → B) (xs : List A) (y : A) → map f (xs ++ y ∷ []) ≡ map f xs ++ f y ∷ []
@@ -111,9 +111,13 @@ not-begun m e = go (m .stated) e
     go true q = q
     go false q = refl
 
-module _ {sheet : List ℕ} {t : Table} {m : Marks} {s : List ℕ} {x : Said} (st : Stands sheet t m s x) where
+module _ {W : ℕ} {sheet : List ℕ} {t : Table} {m : Marks} {s : List ℕ} {x : Said} (st : Stands W sheet t m s x) where
   counted : countsOf (x .names) ≡ t .counts
   counted = rw (st .names) (counts-of sheet t (st .tidy))
+
+  -- the counts are within the limits of the store
+  pub stands-fits : Fits W (t .counts)
+  stands-fits = record { items = omega (arith, st .items, st .room); concepts = st .tidy .room .concepts; roles = st .tidy .room .roles }
 
   no-statements : begun m ≡ false → x .statements ≡ []
   no-statements e = none-nil (x .statements) (flip (none (x .statements)) (ap (λ (n : Marks). n .stated) (st .marks) ∙ not-begun m e))
@@ -123,16 +127,16 @@ module _ {sheet : List ℕ} {t : Table} {m : Marks} {s : List ℕ} {x : Said} (s
       flip false q = sym q
 
   -- the store once it has begun
-  pub begun-keeps : {s1 : List ℕ} → Begins (begun m) (t .counts) s s1 → Keeps width (t .counts) (StatedIn x) s1
+  pub begun-keeps : {s1 : List ℕ} → Begins W (begun m) (t .counts) s s1 → Keeps W (t .counts) (StatedIn x) s1
   begun-keeps {s1} b = go (begun m) refl (st .store) b
     where
-      go : (c : Bool) → begun m ≡ c → Stopped c x s → Begins c (t .counts) s s1 → Keeps width (t .counts) (StatedIn x) s1
+      go : (c : Bool) → begun m ≡ c → Stopped W c x s → Begins W c (t .counts) s s1 → Keeps W (t .counts) (StatedIn x) s1
       go true e h q = rw (q, ← counted) h
       go false e h q = rw (no-statements e) (keeps-none q)
 
-  pub stands-statement : (k : ℕ) (w : StatementWord) (fs : List Field) {s1 s2 : List ℕ} → Begins (begun m) (t .counts) s s1
-      → Keeps width (t .counts) (With (Holds width (t .counts) s1) (cellOf (statementOf (namesOf sheet t) w fs))) s2
-      → Stands sheet t (record { stated = true; rules = m .rules }) s2 (saying k x (form.Statement w) fs)
+  pub stands-statement : (k : ℕ) (w : StatementWord) (fs : List Field) {s1 s2 : List ℕ} → Begins W (begun m) (t .counts) s s1
+      → Keeps W (t .counts) (With (Holds W (t .counts) s1) (cellOf (statementOf (namesOf sheet t) w fs))) s2
+      → Stands W sheet t (record { stated = true; rules = m .rules }) s2 (saying k x (form.Statement w) fs)
   stands-statement k w fs {s1} {s2} b kept =
       record {
         names = st .names;
@@ -140,11 +144,14 @@ module _ {sheet : List ℕ} {t : Table} {m : Marks} {s : List ℕ} {x : Said} (s
         tidy = st .tidy;
         few = st .few;
         long = kept .store .long;
+        items = st .items;
+        room = st .room;
+        places = st .places;
         store = rw (counted, st .names, map-last) (keeps-more (statementOf (namesOf sheet t) w fs) (begun-keeps b) kept);
       }
 
-  pub stands-rule : (k : ℕ) (w : RuleWord) (fs : List Field) {s1 : List ℕ} → m .rules < ruleLimit → Begins (begun m) (t .counts) s s1
-      → Stands sheet t (record { stated = m .stated; rules = m .rules + 1 }) s1 (saying k x (form.Rule w) fs)
+  pub stands-rule : (k : ℕ) (w : RuleWord) (fs : List Field) {s1 : List ℕ} → m .rules < ruleLimit → Begins W (begun m) (t .counts) s s1
+      → Stands W sheet t (record { stated = m .stated; rules = m .rules + 1 }) s1 (saying k x (form.Rule w) fs)
   stands-rule k w fs {s1} h b =
       record {
         names = st .names;
@@ -152,6 +159,9 @@ module _ {sheet : List ℕ} {t : Table} {m : Marks} {s : List ℕ} {x : Said} (s
         tidy = st .tidy;
         few = omega arith;
         long = begun-keeps b .store .long;
+        items = st .items;
+        room = st .room;
+        places = st .places;
         store = on (m .stated || ltb 0 (m .rules + 1)) (either (m .stated));
       }
     where
@@ -159,28 +169,66 @@ module _ {sheet : List ℕ} {t : Table} {m : Marks} {s : List ℕ} {x : Said} (s
       either true = refl
       either false = lt-ltb 0 (m .rules + 1) (omega arith)
 
-      on : (c : Bool) → c ≡ true → Stopped c (saying k x (form.Rule w) fs) s1
+      on : (c : Bool) → c ≡ true → Stopped W c (saying k x (form.Rule w) fs) s1
       on true e = rw counted (begun-keeps b)
       on false e = absurd (true≢false (sym e))
 
   -- where nothing has begun, the store is as it was
-  untouched : (y : Said) → begun m ≡ false → Stopped (begun m) y s
+  untouched : (y : Said) → begun m ≡ false → Stopped W (begun m) y s
   untouched y e = go (begun m) e (st .store)
     where
-      go : (c : Bool) → c ≡ false → Stopped c x s → Stopped c y s
+      go : (c : Bool) → c ≡ false → Stopped W c x s → Stopped W c y s
       go true q h = absurd (true≢false q)
       go false q h = h
 
+  -- the numbers after a declaration: they have the room that they had
+  module _ {u : Table} {n : Names} (d : Declared sheet u n) (e : n .room ≡ roomOf (t .numbers)) where
+    same-room : roomOf (u .numbers) ≡ roomOf (t .numbers)
+    same-room = ap (λ (z : Names). z .room) (d .names) ∙ e
+
+    still-room : roomOf (u .numbers) ≤ itemLimit W
+    still-room = omega (arith, same-room, st .room)
+
   -- after a declaration: the names and the numbers with one more
-  module _ (k : ℕ) (fs : List Field) (e : begun m ≡ false) where
-    pub stands-concept : {numbers : List ℕ} → DeclaredConcept sheet t (at 0 fs) numbers → Stands sheet (tableOf numbers (moreConcepts (t .counts))) m s (saying k x form.Concept fs)
+  module _ (k : ℕ) (fs : List Field) (e : begun m ≡ false) {numbers : List ℕ} (l : length numbers ≡ length (t .numbers)) where
+    pub stands-concept : DeclaredConcept sheet t (at 0 fs) numbers → Stands W sheet (tableOf numbers (moreConcepts (t .counts))) m s (saying k x form.Concept fs)
     stands-concept d =
-        record { names = ap (λ (n : Names). addConcept n (at 0 fs)) (st .names) ∙ sym (d .names); marks = st .marks; tidy = d .tidy; few = st .few; long = st .long; store = untouched (saying k x form.Concept fs) e }
+        record {
+          names = ap (λ (n : Names). addConcept n (at 0 fs)) (st .names) ∙ sym (d .names);
+          marks = st .marks;
+          tidy = d .tidy;
+          few = st .few;
+          long = st .long;
+          items = omega (arith, same-room d refl, st .items);
+          room = still-room d refl;
+          places = omega (arith, l, st .places);
+          store = untouched (saying k x form.Concept fs) e;
+        }
 
-    pub stands-role : {numbers : List ℕ} → DeclaredRole sheet t (at 0 fs) numbers → Stands sheet (tableOf numbers (moreRoles (t .counts))) m s (saying k x form.Role fs)
+    pub stands-role : DeclaredRole sheet t (at 0 fs) numbers → Stands W sheet (tableOf numbers (moreRoles (t .counts))) m s (saying k x form.Role fs)
     stands-role d =
-        record { names = ap (λ (n : Names). addRole n (at 0 fs)) (st .names) ∙ sym (d .names); marks = st .marks; tidy = d .tidy; few = st .few; long = st .long; store = untouched (saying k x form.Role fs) e }
+        record {
+          names = ap (λ (n : Names). addRole n (at 0 fs)) (st .names) ∙ sym (d .names);
+          marks = st .marks;
+          tidy = d .tidy;
+          few = st .few;
+          long = st .long;
+          items = omega (arith, same-room d refl, st .items);
+          room = still-room d refl;
+          places = omega (arith, l, st .places);
+          store = untouched (saying k x form.Role fs) e;
+        }
 
-    pub stands-item : {numbers : List ℕ} → DeclaredItem sheet t (at 0 fs) numbers → Stands sheet (tableOf numbers (moreItems (t .counts))) m s (saying k x form.Item fs)
-    stands-item d =
-        record { names = ap (λ (n : Names). addItem n (at 0 fs)) (st .names) ∙ sym (d .names); marks = st .marks; tidy = d .tidy; few = st .few; long = st .long; store = untouched (saying k x form.Item fs) e }
+    pub stands-item : t .counts .items < roomOf (t .numbers) → DeclaredItem sheet t (at 0 fs) numbers → Stands W sheet (tableOf numbers (moreItems (t .counts))) m s (saying k x form.Item fs)
+    stands-item h d =
+        record {
+          names = ap (λ (n : Names). addItem n (at 0 fs)) (st .names) ∙ sym (d .names);
+          marks = st .marks;
+          tidy = d .tidy;
+          few = st .few;
+          long = st .long;
+          items = omega (arith, same-room d refl, h);
+          room = still-room d refl;
+          places = omega (arith, l, st .places);
+          store = untouched (saying k x form.Item fs) e;
+        }

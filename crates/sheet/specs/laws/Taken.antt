@@ -13,7 +13,7 @@ use Rattle.reader.specs.own.Scan.{startBy}
 use Rattle.reader.specs.laws.Ends.{field-length, field-text, line-inside, room-between}
 use Rattle.text.specs.laws.Name.{name-bounds}
 use Rattle.text.specs.laws.Split.{end-le}
-use Rattle.store.specs.Layout.{conceptLimit, itemLimit, roleLimit, width}
+use Rattle.store.specs.Layout.{conceptLimit, itemLimit, large, roleLimit}
 use Rattle.field.specs.declared.Due.{Due}
 use Rattle.field.specs.declared.Due.the-variants as due
 use Rattle.field.specs.declared.Form.{Form}
@@ -28,7 +28,7 @@ use Rattle.field.specs.Words.{at, Field, bodyOf, formOf}
 use Rattle.sheet.specs.Said.{Said, lineSaid, saying}
 use Rattle.sheet.specs.own.Stands.{Begins, Declaration, Stands, Takes}
 use Rattle.field.specs.own.Line.{Looked, wordsOf}
-use Rattle.field.specs.own.Table.{Noted, Table, Tidy, conceptName, entryOf, hintAt, itemsFrom, nameAt, namesOf, placeCount, rolesFrom, tableOf}
+use Rattle.field.specs.own.Table.{Noted, Table, Tidy, conceptName, conceptsFrom, entryOf, hintAt, itemsFrom, nameAt, namesOf, placeCount, rolesFrom, roomOf, tableOf}
 use Rattle.line.specs.laws.Accepted.{Accepted, line-accepted}
 use Rattle.field.specs.laws.Declared.{declared-concept, declared-item, declared-role, moreConcepts, moreItems, moreRoles}
 use Rattle.field.specs.laws.Right.{New, concept-name-good, concept-new, item-new, right-first, role-new}
@@ -48,17 +48,17 @@ some-line [] h = absurd (h refl)
 some-line (b ∷ line) h = refl
 
 -- its bytes have places that an entry can tell
-pub line-near : {sheet : List ℕ} {t : Table} {m : Marks} {s : List ℕ} {start : ℕ} {line : List ℕ} → Takes sheet t m s start line → start + length line < placeCount
+pub line-near : {W : ℕ} {sheet : List ℕ} {t : Table} {m : Marks} {s : List ℕ} {start : ℕ} {line : List ℕ} → Takes W sheet t m s start line → start + length line < placeCount
 line-near {sheet} {start = start} tk = omega (arith, ap length (tk .is), line-inside sheet start (tk .inside), end-le 10 sheet start (tk .inside), tk .short)
 
 -- a line that is not empty, without a fault; its form is f
-module _ {sheet : List ℕ} {t : Table} {m : Marks} {s : List ℕ} {start : ℕ} {line : List ℕ} (tk : Takes sheet t m s start line) (some : none line ≡ false) (f : Form) (is : f ≡ formOf (fields line)) where
+module _ {W : ℕ} {sheet : List ℕ} {t : Table} {m : Marks} {s : List ℕ} {start : ℕ} {line : List ℕ} (tk : Takes W sheet t m s start line) (some : none line ≡ false) (f : Form) (is : f ≡ formOf (fields line)) where
   said-by : (k : ℕ) (x : Said) → lineSaid k x line ≡ saying k x f (bodyOf (fields line))
   unfolding lineSaid
   said-by k x = rw (some, is)
 
   -- what is shown of what its form says holds of what the line says
-  by-form : {t′ : Table} {m′ : Marks} {s′ : List ℕ} (k : ℕ) (x : Said) → Stands sheet t′ m′ s′ (saying k x f (bodyOf (fields line))) → Stands sheet t′ m′ s′ (lineSaid k x line)
+  by-form : {t′ : Table} {m′ : Marks} {s′ : List ℕ} (k : ℕ) (x : Said) → Stands W sheet t′ m′ s′ (saying k x f (bodyOf (fields line))) → Stands W sheet t′ m′ s′ (lineSaid k x line)
   by-form k x h = rw (said-by k x) h
 
   accepted : Accepted (namesOf sheet t) m f (bodyOf (fields line))
@@ -109,14 +109,14 @@ module _ {sheet : List ℕ} {t : Table} {m : Marks} {s : List ℕ} {start : ℕ}
     concept-declared = declaration (concept-name-good (at 1 (fields line)) (concept-name .well) .0)
 
     pub concept-room : t .counts .concepts < conceptLimit
-    concept-room = omega (arith, concept-name .few, entered-length sheet (t .numbers) 0 (t .counts .concepts) (omega (arith, tidy .long, tidy .room .concepts)))
+    concept-room = omega (arith, concept-name .few, entered-length sheet (t .numbers) conceptsFrom (t .counts .concepts) (omega (arith, tidy .long, tidy .room .concepts)))
 
-    pub concept-taken : (ends numbers : List ℕ) → Looked line ends → Noted (t .numbers) (t .counts .concepts) (entryOf (at 1 (fields line)) (start + startBy 0 ends 1)) (hintAt 0 (at 1 (fields line))) numbers → (k : ℕ) (x : Said) → Stands sheet t m s x
-        → Stands sheet (tableOf numbers (moreConcepts (t .counts))) m s (lineSaid k x line)
+    pub concept-taken : (ends numbers : List ℕ) → Looked line ends → Noted (t .numbers) (conceptsFrom + t .counts .concepts) (entryOf (at 1 (fields line)) (start + startBy 0 ends 1)) (hintAt conceptsFrom (at 1 (fields line))) numbers → (k : ℕ) (x : Said) → Stands W sheet t m s x
+        → Stands W sheet (tableOf numbers (moreConcepts (t .counts))) m s (lineSaid k x line)
     concept-taken ends numbers v noted k x st =
         by-form k x
         (rw told
-        (stands-concept st k (bodyOf (fields line)) (rw told at (accepted .started))
+        (stands-concept st k (bodyOf (fields line)) (rw told at (accepted .started)) (noted .long)
         (rw (named-at (rw told) due.NewConcept (rw told) refl) (declared-concept tidy (at 1 (fields line)) _ (entry-is ends v (concept-name-good (at 1 (fields line)) (concept-name .well) .0)) noted concept-name))))
 
   module _ (told : f ≡ form.Role) where
@@ -129,31 +129,38 @@ module _ {sheet : List ℕ} {t : Table} {m : Marks} {s : List ℕ} {start : ℕ}
     pub role-room : t .counts .roles < roleLimit
     role-room = omega (arith, role-name .few, entered-length sheet (t .numbers) rolesFrom (t .counts .roles) (omega (arith, tidy .long, tidy .room .roles)))
 
-    pub role-taken : (ends numbers : List ℕ) → Looked line ends → Noted (t .numbers) (rolesFrom + t .counts .roles) (entryOf (at 1 (fields line)) (start + startBy 0 ends 1)) (hintAt rolesFrom (at 1 (fields line))) numbers → (k : ℕ) (x : Said) → Stands sheet t m s x
-        → Stands sheet (tableOf numbers (moreRoles (t .counts))) m s (lineSaid k x line)
+    pub role-taken : (ends numbers : List ℕ) → Looked line ends → Noted (t .numbers) (rolesFrom + t .counts .roles) (entryOf (at 1 (fields line)) (start + startBy 0 ends 1)) (hintAt rolesFrom (at 1 (fields line))) numbers → (k : ℕ) (x : Said) → Stands W sheet t m s x
+        → Stands W sheet (tableOf numbers (moreRoles (t .counts))) m s (lineSaid k x line)
     role-taken ends numbers v noted k x st =
         by-form k x
         (rw told
-        (stands-role st k (bodyOf (fields line)) (rw told at (accepted .started))
+        (stands-role st k (bodyOf (fields line)) (rw told at (accepted .started)) (noted .long)
         (rw (named-at (rw told) due.NewRole (rw told) refl) (declared-role tidy (at 1 (fields line)) _ (entry-is ends v (role-name .well)) noted role-name))))
 
   module _ (told : f ≡ form.Item) where
-    item-name : New isName (itemLimit width) (namesOf sheet t .items) (at 1 (fields line))
+    item-name : New isName (roomOf (t .numbers)) (namesOf sheet t .items) (at 1 (fields line))
     item-name = item-new (namesOf sheet t) (at 1 (fields line)) (new-fault (rw told) due.NewItem (rw told) refl)
 
     pub item-declared : Declaration line
     item-declared = declaration (item-name .well)
 
-    pub item-room : t .counts .items < (itemLimit width)
+    pub item-room : t .counts .items < roomOf (t .numbers)
     item-room = omega (arith, item-name .few, entered-length sheet (t .numbers) itemsFrom (t .counts .items) (omega (arith, tidy .long, tidy .room .items)))
 
-    pub item-taken : (ends numbers : List ℕ) → Looked line ends → Noted (t .numbers) (itemsFrom + t .counts .items) (entryOf (at 1 (fields line)) (start + startBy 0 ends 1)) (hintAt itemsFrom (at 1 (fields line))) numbers → (k : ℕ) (x : Said) → Stands sheet t m s x
-        → Stands sheet (tableOf numbers (moreItems (t .counts))) m s (lineSaid k x line)
-    item-taken ends numbers v noted k x st =
+    -- there is a place for it, and any store has room for so many
+    pub item-place : itemsFrom + roomOf (t .numbers) ≤ length (t .numbers)
+    item-place = omega (arith, tk .stands .room, tk .stands .places)
+
+    pub item-most : W ≤ large → roomOf (t .numbers) ≤ itemLimit large
+    item-most h = omega (arith, tk .stands .room)
+
+    pub item-taken : W ≤ large → (ends numbers : List ℕ) → Looked line ends → Noted (t .numbers) (itemsFrom + t .counts .items) (entryOf (at 1 (fields line)) (start + startBy 0 ends 1)) (hintAt itemsFrom (at 1 (fields line))) numbers → (k : ℕ) (x : Said) → Stands W sheet t m s x
+        → Stands W sheet (tableOf numbers (moreItems (t .counts))) m s (lineSaid k x line)
+    item-taken w ends numbers v noted k x st =
         by-form k x
         (rw told
-        (stands-item st k (bodyOf (fields line)) (rw told at (accepted .started))
-        (rw (named-at (rw told) due.NewItem (rw told) refl) (declared-item tidy (at 1 (fields line)) _ (entry-is ends v (item-name .well)) noted item-name))))
+        (stands-item st k (bodyOf (fields line)) (rw told at (accepted .started)) (noted .long) item-room
+        (rw (named-at (rw told) due.NewItem (rw told) refl) (declared-item tidy (at 1 (fields line)) _ (entry-is ends v (item-name .well)) item-place (item-most w) noted item-name))))
 
   -- ---- the lines that are no declarations
 
@@ -165,15 +172,15 @@ module _ {sheet : List ℕ} {t : Table} {m : Marks} {s : List ℕ} {start : ℕ}
   rule-room w told = leb-false ruleLimit (m .rules) (rw told at (accepted .room))
 
   pub statement-taken : (w : StatementWord) → f ≡ form.Statement w → {t′ : Table} {m′ : Marks} {s′ : List ℕ}
-      → ((k : ℕ) (x : Said) → Stands sheet t m s x → Stands sheet t′ m′ s′ (saying k x (form.Statement w) (drop 1 (fields line)))) → (k : ℕ) (x : Said) → Stands sheet t m s x → Stands sheet t′ m′ s′ (lineSaid k x line)
+      → ((k : ℕ) (x : Said) → Stands W sheet t m s x → Stands W sheet t′ m′ s′ (saying k x (form.Statement w) (drop 1 (fields line)))) → (k : ℕ) (x : Said) → Stands W sheet t m s x → Stands W sheet t′ m′ s′ (lineSaid k x line)
   statement-taken w told h k x st = by-form k x (rw told (rw (statement-body w told) at (h k x st)))
 
-  pub rule-taken : (w : RuleWord) → f ≡ form.Rule w → {s1 : List ℕ} → Begins (begun m) (t .counts) s s1 → (k : ℕ) (x : Said) → Stands sheet t m s x
-      → Stands sheet t (record { stated = m .stated; rules = m .rules + 1 }) s1 (lineSaid k x line)
+  pub rule-taken : (w : RuleWord) → f ≡ form.Rule w → {s1 : List ℕ} → Begins W (begun m) (t .counts) s s1 → (k : ℕ) (x : Said) → Stands W sheet t m s x
+      → Stands W sheet t (record { stated = m .stated; rules = m .rules + 1 }) s1 (lineSaid k x line)
   rule-taken w told h k x st = by-form k x (rw told (stands-rule st k w (bodyOf (fields line)) (rule-room w told) h))
 
-  pub bare-taken : f ≡ form.Bare → (k : ℕ) (x : Said) → Stands sheet t m s x → Stands sheet t m s (lineSaid k x line)
+  pub bare-taken : f ≡ form.Bare → (k : ℕ) (x : Said) → Stands W sheet t m s x → Stands W sheet t m s (lineSaid k x line)
   bare-taken told k x st = by-form k x (rw told st)
 
-  pub unknown-taken : f ≡ form.Unknown → (k : ℕ) (x : Said) → Stands sheet t m s x → Stands sheet t m s (lineSaid k x line)
+  pub unknown-taken : f ≡ form.Unknown → (k : ℕ) (x : Said) → Stands W sheet t m s x → Stands W sheet t m s (lineSaid k x line)
   unknown-taken told k x st = by-form k x (rw told st)

@@ -6,7 +6,7 @@ use Prim.Native.Nat.{ℕ, _+_, _≤_, _<_}
 use lib.ListN.{length}
 use Rattle.text.specs.Split.{fields}
 use Rattle.text.specs.own.Split.{partsFrom}
-use Rattle.store.specs.Layout.{ClosedStore, Holds, size, width}
+use Rattle.store.specs.Layout.{ClosedStore, Holds, size, widthOf}
 use Rattle.rule.specs.declared.Finding.{Finding}
 use Rattle.judge.specs.declared.Total.{Total}
 use Rattle.judge.specs.declared.Total.the-variants.{Count, Refused}
@@ -71,15 +71,16 @@ pub record Next (sheet : List ℕ) (t : Table) (at k : ℕ) (r : RuleLine) : Typ
   pub later : at < r .past
   pub inside : r .past ≤ length sheet + 2
 
--- the table t has the names of the sheet, which is accepted
+-- the table t has the names of the sheet, which is accepted, with a store of some row width
 pub record Accepts (sheet : List ℕ) (t : Table) : Type 0 where
+  pub width : ℕ
   pub said : Said
-  pub ends : outcome sheet ≡ accepted said
+  pub ends : outcome width sheet ≡ accepted said
   pub names : said .names ≡ namesOf sheet t
 
 -- the first rule of an accepted sheet
 pub record Opened (sheet : List ℕ) (t : Table) (r : RuleLine) : Type 0 where
-  pub rule : (x : Said) → outcome sheet ≡ accepted x → x .names ≡ namesOf sheet t → NextRule (r .found) sheet t x [] r
+  pub rule : (W : ℕ) (x : Said) → outcome W sheet ≡ accepted x → x .names ≡ namesOf sheet t → NextRule (r .found) sheet t x [] r
   pub inside : r .past ≤ length sheet + 2
 
 -- the findings that an answer counts
@@ -88,24 +89,25 @@ countedIn (Count m) = m
 countedIn (Refused k) = 0
 
 -- the rules `done` of the sheet x have so many findings in the store t
-pub record Counted (x : Said) (t : List ℕ) (done : List SheetRule) (total : ℕ) : Type 0 where
+pub record Counted (W : ℕ) (x : Said) (t : List ℕ) (done : List SheetRule) (total : ℕ) : Type 0 where
   pub list : List Finding
-  pub findings : FindingsFrom (Holds width (countsOf (x .names)) t) (countsOf (x .names)) 0 done list
+  pub findings : FindingsFrom (Holds W (countsOf (x .names)) t) (countsOf (x .names)) 0 done list
   pub all : total ≡ length list
 
--- the sheet with the names of the table t is accepted, and the words s are a closed store for them
-pub record Judges (sheet : List ℕ) (t : Table) (s : List ℕ) : Type 0 where
+-- the sheet with the names of the table t is accepted, and the words s are a closed store for them, of row width W
+pub record Judges (W : ℕ) (sheet : List ℕ) (t : Table) (s : List ℕ) : Type 0 where
   pub tidy : Tidy sheet t
   pub sheetSaid : Accepts sheet t
-  pub store : ClosedStore width (t .counts) s
+  pub with : sheetSaid .width ≡ W
+  pub store : ClosedStore W (t .counts) s
 
 -- its rules have so many findings in all
-abbrev pub Totalled : List ℕ → Table → List ℕ → ℕ → Type 0
-Totalled sheet t s r = (x : Said) → outcome sheet ≡ accepted x → x .names ≡ namesOf sheet t → Counted x s (x .rules) r
+abbrev pub Totalled : ℕ → List ℕ → Table → List ℕ → ℕ → Type 0
+Totalled W sheet t s r = (x : Said) → outcome W sheet ≡ accepted x → x .names ≡ namesOf sheet t → Counted W x s (x .rules) r
 
 -- a sheet was read into the store s, which became t: the answer, the table of the names, and where the rules begin, if it was accepted
 pub record Wholly (sheet s t numbers : List ℕ) (r : Whole) : Type 0 where
   pub reads : Reads sheet s t (r .answer)
   pub tidy : Tidy sheet (tableOf numbers (r .counts))
-  pub names : (x : Said) → length s ≡ size width → outcome sheet ≡ accepted x → x .names ≡ namesOf sheet (tableOf numbers (r .counts))
-  pub start : (x : Said) → length s ≡ size width → outcome sheet ≡ accepted x → Since sheet (r .start)
+  pub names : (x : Said) → length s ≡ size (widthOf s) → outcome (widthOf s) sheet ≡ accepted x → x .names ≡ namesOf sheet (tableOf numbers (r .counts))
+  pub start : (x : Said) → length s ≡ size (widthOf s) → outcome (widthOf s) sheet ≡ accepted x → Since (widthOf s) sheet (r .start)

@@ -1,6 +1,7 @@
 -- `trail::ended` meets its contract. Assumes nothing.
 use mathlib.Core.Path.{refl}
 use borrow.Author.Needs.{needs}
+use native.Mathlib.Omega.{arith}
 use Rattle.trail.proofs.ended.Statement.{statement}
 use Rattle.trail.proofs.ended.Tie as tie
 
@@ -8,7 +9,7 @@ empty-requires : tie.Need-empty-requires
 empty-requires c κs = search needs
 
 layout-requires : tie.Need-layout-requires
-layout-requires c κs = search needs
+layout-requires c κs = omega arith
 
 trail-at-requires : tie.Need-trail-at-requires
 trail-at-requires c κs = search needs

@@ -3,7 +3,7 @@ use mathlib.Core.List.{List}
 use Prim.Native.Nat.{_+_, _-_, _≤_}
 use lib.ListN.{length}
 use borrow.Author.Tests.{not-true, not-false}
-use Rattle.store.specs.laws.Laid.{laid-of}
+use Rattle.store.specs.laws.Width.{laid-by}
 use Rattle.rule.specs.declared.Finding.{Finding}
 use Rattle.field.specs.own.Table.{tableOf}
 use Rattle.sheet.specs.own.Pass.{Paused}
@@ -20,8 +20,8 @@ Inv-loop sheet names counts words from first rule at past₀ line₀ number₀ p
 abbrev μ-loop : tie.MeasureT-loop
 μ-loop sheet names counts words from first rule at past₀ line₀ number₀ past line number = length sheet + 3 - past
 
-layout-requires : tie.Need-layout-requires Inv-loop μ-loop
-layout-requires c κs = search needs
+layout-of-requires : tie.Need-layout-of-requires Inv-loop μ-loop
+layout-of-requires c κs = search needs
 
 loop-holds : tie.Need-loop-holds Inv-loop μ-loop
 loop-holds c = ((c .before .before .before .before .pre .2), (c .before .before .before .before .pre .3), (λ fs b. b))
@@ -38,7 +38,7 @@ returns c =
     record { going = z .going; onward = λ fs b. z .onward fs ((c .before .before .before .before .loop .inv .2) fs b) }
 
 start-requires : tie.Need-start-requires Inv-loop μ-loop
-start-requires c κs = (laid-of (c .before .before .before .before .before .layout .ensures) (c .before .before .before .before .before .before .before .before .before .pre .1 .long) (omega arith), rw (c .before .before .before .before .before .layout .ensures) (c .before .before .before .before .before .before .before .before .before .pre .1))
+start-requires c κs = (laid-by (c .before .before .before .before .before .layout-of .ensures) (c .before .before .before .before .before .before .before .before .before .pre .1 .long), rw (c .before .before .before .before .before .layout-of .ensures) (c .before .before .before .before .before .before .before .before .before .pre .1))
 
 counted-requires : tie.Need-counted-requires Inv-loop μ-loop
 counted-requires c κs = search needs
@@ -56,7 +56,7 @@ trail-at-requires c κs = search needs
 
 returns-2 : tie.Need-returns-2 Inv-loop μ-loop
 returns-2 c =
-    let z = sought-some _ _ _ _ _ _ _ (c .before .before .before .before .before .before .before .before .before .next .ensures) (not-false _ (c .before .before .before .before .before .before .before .if1 .left)) (c .before .before .before .before .before .before .before .before .before .before .before .layout .ensures) (c .before .before .before .before .before .start .ensures) (c .before .before .before .before .before .before .before .before .before .before .before .before .before .before .before .pre .0) (c .before .before .before .before .before .before .before .before .before .before .before .before .before .before .before .pre .1) (c .before .before .before .before .before .before .before .before .before .before .loop .inv .0) (c .before .before .before .before .before .before .before .before .before .before .loop .inv .1) (omega (arith, (c .before .before .before .before .counted .ensures), (c .before .before .if2 .taken))) in
+    let z = sought-some _ _ _ _ _ _ _ (c .before .before .before .before .before .before .before .before .before .next .ensures) (not-false _ (c .before .before .before .before .before .before .before .if1 .left)) (c .before .before .before .before .before .before .before .before .before .before .before .layout-of .ensures) (c .before .before .before .before .before .start .ensures) (c .before .before .before .before .before .before .before .before .before .before .before .before .before .before .before .pre .0) (c .before .before .before .before .before .before .before .before .before .before .before .before .before .before .before .pre .1) (c .before .before .before .before .before .before .before .before .before .before .loop .inv .0) (c .before .before .before .before .before .before .before .before .before .before .loop .inv .1) (omega (arith, (c .before .before .before .before .counted .ensures), (c .before .before .if2 .taken))) in
     rw ((c .trail-at .ensures), (c .before .before .before .before .counted .ensures)) (record { going = z .going; onward = λ fs b. z .onward fs ((c .before .before .before .before .before .before .before .before .before .before .loop .inv .2) fs b) })
 
 loop-less : tie.Need-loop-less Inv-loop μ-loop
@@ -66,7 +66,7 @@ loop-again : tie.Need-loop-again Inv-loop μ-loop
 loop-again c = (
   beyond-paused (c .before .before .before .before .before .before .before .next .ensures) (not-false _ (c .before .before .before .before .before .if1 .left)) (c .before .before .before .before .before .before .before .before .loop .inv .0),
   omega (arith, (c .before .before .before .before .before .before .before .before .loop .inv .1), (c .before .before .before .before .before .before .before .next .ensures .later)),
-  (λ fs b. beyond-on _ _ _ _ _ _ _ (c .before .before .before .before .before .before .before .next .ensures) (not-false _ (c .before .before .before .before .before .if1 .left)) (c .before .before .before .before .before .before .before .before .before .layout .ensures) (c .before .before .before .start .ensures) (omega (arith, (c .before .before .counted .ensures), (c .if2 .left))) ((c .before .before .before .before .before .before .before .before .loop .inv .2) fs b)),
+  (λ fs b. beyond-on _ _ _ _ _ _ _ (c .before .before .before .before .before .before .before .next .ensures) (not-false _ (c .before .before .before .before .before .if1 .left)) (c .before .before .before .before .before .before .before .before .before .layout-of .ensures) (c .before .before .before .start .ensures) (omega (arith, (c .before .before .counted .ensures), (c .if2 .left))) ((c .before .before .before .before .before .before .before .before .loop .inv .2) fs b)),
 )
 
 pub seek-spec : {M : Type 1} → statement M
@@ -75,7 +75,7 @@ seek-spec =
     (tie.spec
     Inv-loop
     μ-loop
-    layout-requires
+    layout-of-requires
     loop-holds
     next-requires
     ended-requires

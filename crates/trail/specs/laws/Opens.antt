@@ -5,7 +5,8 @@ use Prim.Native.Nat.{ℕ, min}
 use native.Mathlib.Omega.{arith}
 use lib.ListN.{length}
 use Rattle.store.specs.declared.Counts.{Counts}
-use Rattle.store.specs.Layout.{ClosedStore, Holds, size, width}
+use Rattle.store.specs.Layout.{ClosedStore, Holds, size, widthOf}
+use Rattle.store.specs.laws.Width.{width-same}
 use Rattle.rule.specs.declared.Finding.{Finding}
 use Rattle.sheet.specs.declared.Reading.{Reading}
 use Rattle.sheet.specs.declared.Reading.the-variants.{Accepted, Refused}
@@ -37,10 +38,10 @@ isRefused (Refused n k) = 1
 record AcceptedRead (sheet s t : List ℕ) (r : Reading) : Type 0 where
   said : Said
   list : List Finding
-  long : length s ≡ size width
-  ends : outcome sheet ≡ acceptedSheet said
-  held : Held said t
-  findings : FindingsIn said t list
+  long : length s ≡ size (widthOf s)
+  ends : outcome (widthOf s) sheet ≡ acceptedSheet said
+  held : Held (widthOf s) said t
+  findings : FindingsIn (widthOf s) said t list
   answer : r ≡ Accepted (countsOf (said .names)) (length (said .rules)) (length list)
 
 -- an answer that is no refusal is of that form
@@ -69,11 +70,15 @@ module _ {sheet s t numbers : List ℕ} {w : Whole} (z : Wholly sheet s t number
 
     -- its rules are read from where they begin
     passing : Passing sheet table (read-so .said) [] (w .start .at) (w .start .line)
-    passing = passing-since sheet table (read-so .said) (w .start) (z .start (read-so .said) (read-so .long) (read-so .ends)) (read-so .ends) named
+    passing = passing-since (widthOf s) sheet table (read-so .said) (w .start) (z .start (read-so .said) (read-so .long) (read-so .ends)) (read-so .ends) named
+
+    -- the words are as wide as they were
+    wide : widthOf s ≡ widthOf t
+    wide = width-same s t (read-so .long ∙ sym (read-so .held .store .long))
 
     -- what going through its rules asks
-    pub opens-store : ClosedStore width (w .counts) t
-    opens-store = subst (λ (c : Counts). ClosedStore width c t) counted (read-so .held .store)
+    pub opens-store : ClosedStore (widthOf t) (w .counts) t
+    opens-store = subst (λ (k : ℕ). ClosedStore k (w .counts) t) wide (subst (λ (c : Counts). ClosedStore (widthOf s) c t) counted (read-so .held .store))
 
     pub opens-paused : Paused sheet table (w .start .at) (w .start .line)
     opens-paused = record { all = read-so .said; before = []; passing = passing }
@@ -92,7 +97,8 @@ module _ {sheet s t numbers : List ℕ} {w : Whole} (z : Wholly sheet s t number
                 done = [];
                 passing = passing;
                 number = refl;
-                findings = subst (λ (c : Counts). FindingsFrom (Holds width c t) c 0 (read-so .said .rules) (read-so .list)) counted (read-so .findings);
+                findings = subst (λ (i : ℕ). FindingsFrom (Holds i (w .counts) t) (w .counts) 0 (read-so .said .rules) (read-so .list)) wide
+                    (subst (λ (c : Counts). FindingsFrom (Holds (widthOf s) c t) c 0 (read-so .said .rules) (read-so .list)) counted (read-so .findings));
               }));
         }
 

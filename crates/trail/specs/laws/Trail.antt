@@ -10,7 +10,7 @@ use lib.Seq.{append-snoc, drop-append-seam, take-append-seam}
 use Rattle.store.specs.declared.Counts.{Counts}
 use Rattle.store.specs.declared.Layout.{Layout}
 use Rattle.store.specs.Cell.{Cell}
-use Rattle.store.specs.Layout.{ClosedStore, Holds, width}
+use Rattle.store.specs.Layout.{ClosedStore, Holds, widthOf}
 use Rattle.store.specs.own.Laid.{layoutOf}
 use Rattle.rule.specs.declared.Finding.{Finding}
 use Rattle.judge.specs.declared.Prepared.{Prepared}
@@ -54,7 +54,7 @@ record RuleThen (sheet s : List ℕ) (names : Table) (k : ℕ) (r : RuleLine) (f
   here : List Finding
   later : List Finding
   all : fs ≡ here ++ later
-  findings : Findings (Holds width (names .counts) s) (names .counts) k (r .rule) here
+  findings : Findings (Holds (widthOf s) (names .counts) s) (names .counts) k (r .rule) here
   beyond : Beyond sheet s names (r .past) (r .line + 1) (k + 1) later
 
 -- the reading pauses past it
@@ -68,7 +68,7 @@ beyond-paused {sheet} {names} {r = r} n e p = record {
 module _ (sheet s : List ℕ) (names : Table) (past line k : ℕ) (r : RuleLine) (n : Next sheet names past line r) where
   -- the findings of rules from a number on
   abbrev From : ℕ → List SheetRule → List Finding → Type 0
-  From i rs fs = FindingsFrom (Holds width (names .counts) s) (names .counts) i rs fs
+  From i rs fs = FindingsFrom (Holds (widthOf s) (names .counts) s) (names .counts) i rs fs
 
   -- there is no rule next: there are no findings
   beyond-none : {fs : List Finding} → r .found ≡ false → Beyond sheet s names past line k fs → fs ≡ []
@@ -115,11 +115,11 @@ module _ (sheet s : List ℕ) (names : Table) (past line k : ℕ) (r : RuleLine)
       past-it : drop (k + 1) (b .said .rules) ≡ w .0
       past-it = ap (drop (k + 1)) (w .1) ∙ ap (λ (i : ℕ). drop i (more-done ++ w .0)) long ∙ drop-append-seam more-done (w .0)
 
-      p : Parted (Holds width (names .counts) s) (names .counts) k q (w .0) fs
+      p : Parted (Holds (widthOf s) (names .counts) s) (names .counts) k q (w .0) fs
       p = from-more (subst (λ (rs : List SheetRule). From k rs fs) at-it (b .findings))
 
   -- no rule is left
-  pub sought-none : {c : Trail} → r .found ≡ false → Tidy sheet names → ClosedStore width (names .counts) s → Paused sheet names past line → k ≤ past → Ended (names .counts) past line k c
+  pub sought-none : {c : Trail} → r .found ≡ false → Tidy sheet names → ClosedStore (widthOf s) (names .counts) s → Paused sheet names past line → k ≤ past → Ended (names .counts) past line k c
       → Sought sheet (names .numbers) (names .counts) s past line k c
   sought-none {c} e y m p h z = rw (z .declared-kept, z .past-kept, z .line-kept, z .number-kept) (record {
     going = record { ready = λ i. absurd (omega (arith, z .more)); tidy = y; store = m; paused = p; few = h };
@@ -127,7 +127,7 @@ module _ (sheet s : List ℕ) (names : Table) (past line k : ℕ) (r : RuleLine)
   })
 
   -- its findings are those that were sought
-  module _ {at : Layout} {p : Prepared} (e : r .found ≡ true) (l : at ≡ layoutOf width) (z : Starts s at (names .counts) k (r .rule) 0 p) where
+  module _ {at : Layout} {p : Prepared} (e : r .found ≡ true) (l : at ≡ layoutOf (widthOf s)) (z : Starts s at (names .counts) k (r .rule) 0 p) where
     -- the list that the search began with is that of the rule's findings
     started : {fs : List Finding} (t : RuleThen sheet s names k r fs) → z .list ≡ t .here
     started t = findings-unique (subst (λ (a : Layout). Findings (Holds (a .width) (names .counts) s) (names .counts) k (r .rule) (z .list)) l (z .findings)) (t .findings)
@@ -148,7 +148,7 @@ module _ (sheet s : List ℕ) (names : Table) (past line k : ℕ) (r : RuleLine)
         go t (g ∷ gs) q = absurd (omega (arith, o, counts, ap length (started t), ap length q))
 
     -- some: the trail stands at the first
-    pub sought-some : Tidy sheet names → ClosedStore width (names .counts) s → Paused sheet names past line → k ≤ past → 0 < countedIn (p .answer)
+    pub sought-some : Tidy sheet names → ClosedStore (widthOf s) (names .counts) s → Paused sheet names past line → k ≤ past → 0 < countedIn (p .answer)
         → Sought sheet (names .numbers) (names .counts) s past line k (trailAt (p .search) (countedIn (p .answer)) (names .counts) (r .past) (r .line + 1) (k + 1))
     sought-some y m a h o = record {
       going = record { ready = λ i. z .ready; tidy = y; store = m; paused = beyond-paused n e a; few = omega (arith, n .later) };

@@ -4,7 +4,7 @@ use mathlib.Core.List.{List, [], _∷_, _++_}
 use Prim.Native.Nat.{ℕ, min, _≤_, _<_}
 use lib.ListN.{length, drop}
 use Rattle.store.specs.declared.Counts.{Counts}
-use Rattle.store.specs.Layout.{ClosedStore, Holds, size, width}
+use Rattle.store.specs.Layout.{ClosedStore, Holds, size, widthOf}
 use Rattle.rule.specs.declared.Finding.{Finding}
 use Rattle.judge.specs.declared.Search.{Search}
 use Rattle.judge.specs.own.Search.{Coming, Ready}
@@ -53,7 +53,7 @@ pub record Beyond (sheet s : List ℕ) (names : Table) (past line k : ℕ) (fs :
   pub done : List SheetRule
   pub passing : Passing sheet names said done past line
   pub number : k ≡ length done
-  pub findings : FindingsFrom (Holds width (names .counts) s) (names .counts) k (drop k (said .rules)) fs
+  pub findings : FindingsFrom (Holds (widthOf s) (names .counts) s) (names .counts) k (drop k (said .rules)) fs
 
 -- the findings from the trail on are exactly this list, the finding at hand first: those that its rule has left, then those of the rules past it
 pub record Onward (sheet numbers s : List ℕ) (c : Trail) (fs : List Finding) : Type 0 where
@@ -69,7 +69,7 @@ pub record Onward (sheet numbers s : List ℕ) (c : Trail) (fs : List Finding) :
 pub record Going (sheet numbers s : List ℕ) (c : Trail) : Type 0 where
   pub ready : 0 < c .more → Ready s (searchOf c)
   pub tidy : Tidy sheet (namesAt numbers c)
-  pub store : ClosedStore width (c .declared) s
+  pub store : ClosedStore (widthOf s) (c .declared) s
   pub paused : Paused sheet (namesAt numbers c) (c .past) (c .line)
   pub few : c .number ≤ c .past
 
@@ -99,7 +99,7 @@ pub record Sought (sheet numbers : List ℕ) (n : Counts) (s : List ℕ) (past l
 -- how a reading with a list of `room` places begins: refused, with nothing to write; or at the first of all findings
 pub data Begins (sheet s t numbers : List ℕ) (room : ℕ) (p : Opening) : Type 0 where
   refused : {n k : ℕ} → Reads sheet s t (Refused n k) → p .answer ≡ Refused n k → p .write ≡ 0 → Begins sheet s t numbers room p
-  accepted : {x : Said} {fs : List Finding} → length s ≡ size width → outcome sheet ≡ acceptedSheet x → Held x t → FindingsIn x t fs
+  accepted : {x : Said} {fs : List Finding} → length s ≡ size (widthOf s) → outcome (widthOf s) sheet ≡ acceptedSheet x → Held (widthOf s) x t → FindingsIn (widthOf s) x t fs
       → p .answer ≡ Accepted (countsOf (x .names)) (length (x .rules)) (length fs) → p .write ≡ min (length fs) room → Onward sheet numbers t (p .trail) fs → Begins sheet s t numbers room p
 
 -- the same with what the writer asks

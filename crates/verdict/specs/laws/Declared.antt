@@ -99,9 +99,9 @@ unfolding outcomeFrom
 from-declared k s x [] e h = subst Declared (ap saidOf e) h
 from-declared k s x (l ∷ ls) e h = let z = accepted-step k s x l ls e in from-declared (k + 1) (lineSaid k s l) x ls (z .1) (line-declared k s l (z .0) h)
 
-module _ (sheet : List ℕ) {x : Said} (o : outcome sheet ≡ accepted x) where
+module _ (W : ℕ) (sheet : List ℕ) {x : Said} (o : outcome W sheet ≡ accepted x) where
   sheet-declared : Declared x
-  sheet-declared = from-declared 2 nothing x _ (accepted-start sheet x o .1) (record { statements = λ z q. absurd (one-none q); rules = λ r q. absurd (one-none q) })
+  sheet-declared = let a = accepted-start W sheet x o in from-declared 2 (nothing (a .0)) x _ (a .2) (record { statements = λ z q. absurd (one-none q); rules = λ r q. absurd (one-none q) })
 
   -- what the statements of an accepted sheet state is within its counts
   pub stated-within : (c : Cell) → StatedIn x c → Within (countsOf (x .names)) c

@@ -32,10 +32,10 @@ pub violations-unique : {x : Said} {fs gs : List Finding} → Violations x fs �
 violations-unique a b = turn-unique (a .ordered) (b .ordered) (λ f o. b .exactly f .1 (a .exactly f .0 o)) (λ f o. a .exactly f .1 (b .exactly f .0 o))
 
 -- C is what follows from the statements of the sheet
-module _ (sheet : List ℕ) {x : Said} (o : outcome sheet ≡ accepted x) {C : Cell → Type 0} (s : Settled (countsOf (x .names)) (StatedIn x) C) where
+module _ (W : ℕ) (sheet : List ℕ) {x : Said} (o : outcome W sheet ≡ accepted x) {C : Cell → Type 0} (s : Settled (countsOf (x .names)) (StatedIn x) C) where
   good-at : {k : ℕ} {u : Rule} → RuleAt x k u → Good (countsOf (x .names)) u
   good-at {u = u} p =
-      rules-good sheet o (record { line = p .line; rule = u }) (subst (λ (rs : List SheetRule). One (record { line = p .line; rule = u }) rs) (sym (p .is)) (one-right (p .before) first))
+      rules-good W sheet o (record { line = p .line; rule = u }) (subst (λ (rs : List SheetRule). One (record { line = p .line; rule = u }) rs) (sym (p .is)) (one-right (p .before) first))
 
   -- what breaks a rule violates it, and the other way round
   breaks-violates : {k : ℕ} {u : Rule} → RuleAt x k u → (a : ℕ) (b : Second) → Breaks C (countsOf (x .names)) u a b ↔ Violates x k a b

@@ -49,11 +49,11 @@ from-few k s x (l ∷ ls) e =
     let z = accepted-step k s x l ls e in
     omega (arith, from-few (k + 1) (lineSaid k s l) x ls (z .1), said-few k s l (z .0))
 
-pub statements-few : (sheet : List ℕ) (x : Said) → outcome sheet ≡ accepted x → length (x .statements) ≤ statementLimit
-statements-few sheet x o =
-    let z = accepted-start sheet x o in
+pub statements-few : (W : ℕ) (sheet : List ℕ) (x : Said) → outcome W sheet ≡ accepted x → length (x .statements) ≤ statementLimit
+statements-few W sheet x o =
+    let z = accepted-start W sheet x o in
     let p : split 10 sheet ≡ partOf sheet 0 (endOf 10 sheet 0 - 0) ∷ partsFrom 10 sheet (endOf 10 sheet 0 + 1) = sym (parts-all 10 sheet) ∙ parts-next 10 sheet 0 zero-le in
-    omega (arith, from-few 2 nothing x (partsFrom 10 sheet (endOf 10 sheet 0 + 1)) (z .1), ap total p, split-total 10 sheet, z .0)
+    omega (arith, from-few 2 (nothing (z .0)) x (partsFrom 10 sheet (endOf 10 sheet 0 + 1)) (z .2), ap total p, split-total 10 sheet, z .1)
 
 -- no line takes a statement back
 said-more : (k : ℕ) (s : Said) (l : List ℕ) → length (s .statements) ≤ length (lineSaid k s l .statements)
@@ -76,7 +76,7 @@ from-more k s x [] e = let z : length (s .statements) ≡ length (x .statements)
 from-more k s x (l ∷ ls) e = omega (arith, from-more (k + 1) (lineSaid k s l) x ls (accepted-step k s x l ls e .1), said-more k s l)
 
 -- a statement that is met in its turn is one of them
-pub turn-few : {sheet : List ℕ} {t : Table} {x : Said} {P : List SheetStatement → Type 0} {q : StatementLine} {n : ℕ} (w : Turn sheet t x P q n) → q .found ≡ true → outcome sheet ≡ accepted x → n < statementLimit
-turn-few {sheet} {x = x} {q = q} w f o =
+pub turn-few : (W : ℕ) {sheet : List ℕ} {t : Table} {x : Said} {P : List SheetStatement → Type 0} {q : StatementLine} {n : ℕ} (w : Turn sheet t x P q n) → q .found ≡ true → outcome W sheet ≡ accepted x → n < statementLimit
+turn-few W {sheet} {x = x} {q = q} w f o =
     let p = turn-passing w f in
-    omega (arith, statements-few sheet x o, w .number, from-more _ (p .said) x _ (p .rest), ap length (p .statements), length-append (w .done) (foundStatement q ∷ []))
+    omega (arith, statements-few W sheet x o, w .number, from-more _ (p .said) x _ (p .rest), ap length (p .statements), length-append (w .done) (foundStatement q ∷ []))

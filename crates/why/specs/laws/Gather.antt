@@ -2,10 +2,10 @@
 use mathlib.Core.Path.{_≡_, refl, sym, ap, _∙_, subst}
 use mathlib.Core.Bool.{Bool, true, false, cond}
 use mathlib.Core.List.{List, [], _∷_, _++_}
-use Prim.Native.Nat.{ℕ, suc, _+_, _<_}
+use Prim.Native.Nat.{ℕ, suc, _+_, _≤_, _<_}
 use native.Mathlib.Numerals.{add-one}
 use native.Mathlib.Omega.{arith}
-use lib.ListN.{length, set, take, length-take}
+use lib.ListN.{length, set, take, length-replicate, length-take, replicate}
 use lib.Seq.{take-suc-set}
 use Rattle.logic.specs.Number.{One}
 use Rattle.logic.specs.Number.One.{first, later}
@@ -13,6 +13,10 @@ use Rattle.logic.specs.laws.Number.{one-none}
 use Rattle.store.specs.declared.Counts.{Counts}
 use Rattle.store.specs.declared.Statement.{Statement}
 use Rattle.store.specs.Cell.{Cell, Within, cellOf}
+use Rattle.store.specs.Layout.{Fits, large, size, small, widthOf}
+use Rattle.store.specs.declared.Layout.{Layout}
+use Rattle.store.specs.own.Laid.{layoutOf, widest}
+use Rattle.store.specs.laws.Width.{block-small, width-small, width-wide}
 use Rattle.closure.specs.Lines.{Stated}
 use Rattle.closure.specs.Lines.Stated.{stated}
 use Rattle.field.specs.Names.{Names, countsOf}
@@ -25,10 +29,10 @@ use Rattle.reason.specs.Part.{Minimal, Part}
 use Rattle.reason.specs.Part.Part.{none as no-part, keep, leave}
 use Rattle.row.specs.own.Row.{rowHasb}
 use Rattle.reason.specs.own.Picked.{markWords, pickedFrom}
-use Rattle.reason.specs.own.Promise.{Clear, FollowsCoded, Reasoned, Sought}
+use Rattle.reason.specs.own.Promise.{Clear, FollowsCoded, Lent, Reasoned, Sought, tableWords}
 use Rattle.reason.specs.laws.Picked.{picked-part}
 use Rattle.why.specs.own.Asked.{Asked, ReasonMarked}
-use Rattle.why.specs.own.Gather.{Gathered, Numbers}
+use Rattle.why.specs.own.Gather.{Gathered, Numbers, Searched}
 use Rattle.why.specs.own.Gather.Numbers.{none, more}
 use Rattle.why.specs.Reason.{FollowsFrom}
 use Rattle.why.specs.laws.Reason.{follows-more}
@@ -132,21 +136,39 @@ within-table sheet {t} names c y e w = subst (λ (n : Counts). Within n c) (ap c
 
 -- ---- the search among the numbers
 
+-- words for as many items as a row has bits
+pub lent-blank : (W : ℕ) → W ≤ widest → Lent W (replicate (tableWords W) 0)
+lent-blank W wide = record { wide = wide; long = omega (arith, length-replicate {A = ℕ} (tableWords W) 0) }
+
+-- those for the larger store suffice for any
+pub lent-large : (s : List ℕ) → Lent (widthOf s) (replicate (tableWords large) 0)
+lent-large s = record { wide = width-wide s; long = omega (arith, length-replicate {A = ℕ} (tableWords large) 0, block-small (widthOf s) (width-wide s)) }
+
+-- those for the smaller one suffice where the store is not the larger
+pub lent-small : (s : List ℕ) → ¬ (length s ≡ size large) → Lent (widthOf s) (replicate (tableWords small) 0)
+lent-small s n = rw (width-small s n) (lent-blank small (omega arith))
+
+-- the words lent, by the layout of the store
+pub searched-by : {at : Layout} {W : ℕ} {n : Counts} {table : List ℕ} → at ≡ layoutOf W → small ≤ W → Fits (at .width) n → Lent W table → Searched (at .width) n table
+searched-by e some f l = record { fits = f; some = rw e (omega (arith, some)); lent = rw e l }
+
 module _ {sheet : List ℕ} {t : Table} {c : Cell} {codes : List ℕ} {r : ℕ} (g : Gathered sheet t codes r) where
   -- it can be made
-  pub gathered-sought : {marks : List ℕ} → Asked sheet t c → length marks ≡ markWords → Clear marks → Sought (t .counts) c (take r codes) marks
-  gathered-sought a wide clear =
+  pub gathered-sought : {W : ℕ} {table marks : List ℕ} → Asked sheet t c → length marks ≡ markWords → Clear marks → Searched W (t .counts) table → Sought W (t .counts) c (take r codes) table marks
+  gathered-sought a wide clear h =
       let s = a .sheetSaid in
-      let m = g .numbers (s .said) (s .ends) (s .names) in
+      let m = g .numbers (s .width) (s .said) (s .ends) (s .names) in
       record {
-        fits = a .tidy .room;
+        fits = h .fits;
         within = numbers-within m;
         few = omega (arith, length-take r codes, g .few);
-        follows = lines-follow m (a .follows (s .said) (s .ends) (s .names));
+        follows = lines-follow m (a .follows (s .width) (s .said) (s .ends) (s .names));
+        some = h .some;
+        lent = h .lent;
         wide = wide;
         clear = clear;
       }
 
   -- what it marks is a reason
   pub gathered-reason : {marks : List ℕ} → Reasoned (t .counts) c (take r codes) marks → ReasonMarked sheet t c marks
-  gathered-reason {marks} q x o m = numbers-minimal (rowHasb marks) (g .numbers x o m) (q .minimal)
+  gathered-reason {marks} q W x o m = numbers-minimal (rowHasb marks) (g .numbers W x o m) (q .minimal)

@@ -29,6 +29,10 @@ over-listed [] b = let e : min 0 (length b) ≡ 0 = omega arith in rw e
 over-listed (l ∷ ls) [] = let e : min (suc (length ls)) 0 ≡ 0 = omega arith in rw e
 over-listed (l ∷ ls) (x ∷ b) = let e : min (suc (length ls)) (suc (length b)) ≡ suc (min (length ls) (length b)) = omega arith in rw e (ap (_∷_ l) (over-listed ls b))
 
+-- a list of no place
+pub listed-none : (ls room : List ℕ) → length room ≡ 0 → Listed ls room room
+listed-none ls room h = let e : min (length ls) (length room) ≡ 0 = omega (arith, h) in rw e
+
 -- the lines of those marked among the statements passed are written, and there are r of them
 pub record Putting (marks before : List ℕ) (after : List ℕ) (r : ℕ) (done : List SheetStatement) : Type 0 where
   pub written : after ≡ over (linesOf (picked marks done)) before

@@ -82,8 +82,8 @@ from-rise k s x [] b e = subst (λ (o : Outcome). Rising (linesOf (saidOf o .sta
 from-rise k s x (l ∷ ls) b e = from-rise (k + 1) (lineSaid k s l) x ls (line-before k s l b) (accepted-step k s x l ls e .1)
 
 -- the statement lines of an accepted sheet have rising numbers
-statements-rise : (sheet : List ℕ) (x : Said) → outcome sheet ≡ accepted x → Rising (linesOf (x .statements))
-statements-rise sheet x o = from-rise 2 nothing x _ (record { rising = none; below = λ y q. absurd (one-none q) }) (accepted-start sheet x o .1)
+statements-rise : (W : ℕ) (sheet : List ℕ) (x : Said) → outcome W sheet ≡ accepted x → Rising (linesOf (x .statements))
+statements-rise W sheet x o = let z = accepted-start W sheet x o in from-rise 2 (nothing (z .0)) x _ (record { rising = none; below = λ y q. absurd (one-none q) }) (z .2)
 
 -- ---- a part of them
 
@@ -98,8 +98,8 @@ part-rises (keep p) (more f r) = more (λ y o. f y (part-one p o)) (part-rises p
 part-rises (leave p) (more f r) = part-rises p r
 
 -- so do those of a reason
-pub reason-rises : (sheet : List ℕ) {x : Said} {n : Counts} {c : Cell} {lines : List SheetStatement} → outcome sheet ≡ accepted x → Reason n c (x .statements) lines → Rising (linesOf lines)
-reason-rises sheet {x} o r = part-rises (part-lines (r .part)) (statements-rise sheet x o)
+pub reason-rises : (W : ℕ) (sheet : List ℕ) {x : Said} {n : Counts} {c : Cell} {lines : List SheetStatement} → outcome W sheet ≡ accepted x → Reason n c (x .statements) lines → Rising (linesOf lines)
+reason-rises W sheet {x} o r = part-rises (part-lines (r .part)) (statements-rise W sheet x o)
 
 -- ---- reflexivity
 

@@ -146,10 +146,10 @@ module _ {sheet : List ℕ} {t : Table} {x : Said} {done : List SheetStatement} 
           rw (z .2) (passing-word (z .0) (z .1), within-word (z .0) (z .1))
 
 -- the first line after the header
-pub passing-start : (sheet : List ℕ) (t : Table) (x : Said) (e : ℕ) → e ≡ endOf 10 sheet 0 → outcome sheet ≡ accepted x → x .names ≡ namesOf sheet t → Passing sheet t x [] (e + 1) 2
-passing-start sheet t x e ends o n =
-    let z = accepted-start sheet x o in
-    record { said = nothing; names = n; statements = refl; rest = rw ends (z .1); short = z .0; inside = omega (arith, ends, end-le 10 sheet 0 zero-le); near = omega arith }
+pub passing-start : (W : ℕ) (sheet : List ℕ) (t : Table) (x : Said) (e : ℕ) → e ≡ endOf 10 sheet 0 → outcome W sheet ≡ accepted x → x .names ≡ namesOf sheet t → Passing sheet t x [] (e + 1) 2
+passing-start W sheet t x e ends o n =
+    let z = accepted-start W sheet x o in
+    record { said = nothing (z .0); names = n; statements = refl; rest = rw ends (z .2); short = z .1; inside = omega (arith, ends, end-le 10 sheet 0 zero-le); near = omega arith }
 
 -- ---- going through the statements
 
@@ -161,8 +161,8 @@ pub record Turn (sheet : List ℕ) (t : Table) (x : Said) (P : List SheetStateme
   pub holds : P done
 
 module _ {sheet : List ℕ} {t : Table} {x : Said} {P : List SheetStatement → Type 0} {q : StatementLine} where
-  pub turn-start : Opened sheet t q → outcome sheet ≡ accepted x → x .names ≡ namesOf sheet t → P [] → Turn sheet t x P q 0
-  turn-start w o n h = record { done = []; next = w .statement x o n; number = refl; holds = h }
+  pub turn-start : (W : ℕ) → Opened sheet t q → outcome W sheet ≡ accepted x → x .names ≡ namesOf sheet t → P [] → Turn sheet t x P q 0
+  turn-start W w o n h = record { done = []; next = w .statement W x o n; number = refl; holds = h }
 
   module _ {n : ℕ} (w : Turn sheet t x P q n) where
     -- no statement comes next: P holds of all

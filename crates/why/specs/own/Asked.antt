@@ -10,9 +10,9 @@ use Rattle.field.specs.own.Table.{Table, Tidy, namesOf}
 use Rattle.reason.specs.own.Picked.{picked}
 use Rattle.why.specs.Reason.{FollowsFrom, Reason}
 
--- P holds of what the accepted sheet with the names of the table t says
+-- P holds of what the sheet with the names of the table t says, with whichever store it is accepted
 abbrev pub Of : List ℕ → Table → (Said → Type 0) → Type 0
-Of sheet t P = (x : Said) → outcome sheet ≡ accepted x → x .names ≡ namesOf sheet t → P x
+Of sheet t P = (W : ℕ) (x : Said) → outcome W sheet ≡ accepted x → x .names ≡ namesOf sheet t → P x
 
 -- the sheet is accepted with the names of the table t, and the cell c follows from its statements
 pub record Asked (sheet : List ℕ) (t : Table) (c : Cell) : Type 0 where

@@ -60,5 +60,5 @@ pub record Next (sheet : List ℕ) (t : Table) (at k : ℕ) (r : StatementLine) 
 
 -- the first statement of an accepted sheet
 pub record Opened (sheet : List ℕ) (t : Table) (r : StatementLine) : Type 0 where
-  pub statement : (x : Said) → outcome sheet ≡ accepted x → x .names ≡ namesOf sheet t → NextStatement (r .found) sheet t x [] r
+  pub statement : (W : ℕ) (x : Said) → outcome W sheet ≡ accepted x → x .names ≡ namesOf sheet t → NextStatement (r .found) sheet t x [] r
   pub inside : r .past ≤ length sheet + 2

@@ -10,7 +10,7 @@ count-requires : tie.Need-count-requires
 count-requires c κs = search needs
 
 returns : tie.Need-returns
-returns c = λ x o m. finding-short _ x _ (c .before .before .before .before .before .before .args .q .now) (record { found = false; item = 0; left = 0; right = 0 }) (λ l. (c .if1 .taken) ((c .before .count .ensures) ∙ l)) refl
+returns c = λ W x o m. finding-short _ _ x _ (c .before .before .before .before .before .before .args .q .now) (record { found = false; item = 0; left = 0; right = 0 }) (λ l. (c .if1 .taken) ((c .before .count .ensures) ∙ l)) refl
 
 past-requires : tie.Need-past-requires
 past-requires c κs = search needs
@@ -28,10 +28,10 @@ field-requires-2 : tie.Need-field-requires-2
 field-requires-2 c κs = search needs
 
 sides-requires : tie.Need-sides-requires
-sides-requires c κs = (c .before .before .before .before .before .before .before .before .before .before .before .pre .0)
+sides-requires c κs = (c .before .before .before .before .before .before .before .before .before .before .before .pre .0, c .before .before .before .before .before .before .before .before .before .before .before .pre .2)
 
 returns-2 : tie.Need-returns-2
-returns-2 c = λ x o m. finding-sides _ x _ (c .before .before .before .before .before .before .before .before .before .before .before .before .args .q .now) _ (c .before .before .before .before .before .before .before .before .before .before .before .before .pre .1) (sym (c .before .before .before .before .before .before .before .count .ensures) ∙ (c .before .before .before .before .before .before .if1 .left)) m (c .sides .result) (c .before .before .item .result) (rw (← (c .before .before .before .before .before .past .ensures), ← (c .before .before .before .before .past2 .ensures), ← (c .before .before .before .field .ensures)) (c .before .before .item .ensures .place)) (rw (← (c .before .before .before .before .before .past .ensures), ← (c .before .field2 .ensures)) ((c .sides .ensures) x o m))
+returns-2 c = λ W x o m. finding-sides _ _ x _ (c .before .before .before .before .before .before .before .before .before .before .before .before .args .q .now) _ (c .before .before .before .before .before .before .before .before .before .before .before .before .pre .1) (sym (c .before .before .before .before .before .before .before .count .ensures) ∙ (c .before .before .before .before .before .before .if1 .left)) m (c .sides .result) (c .before .before .item .result) (rw (← (c .before .before .before .before .before .past .ensures), ← (c .before .before .before .before .past2 .ensures), ← (c .before .before .before .field .ensures)) (c .before .before .item .ensures .place)) (rw (← (c .before .before .before .before .before .past .ensures), ← (c .before .field2 .ensures)) ((c .sides .ensures) W x o m))
 
 pub finding-spec : {M : Type 1} → statement M
 finding-spec =

@@ -12,7 +12,7 @@ put-reason-requires : tie.Need-put-reason-requires
 put-reason-requires c κs = c .before .before .before .before .pre
 
 returns : tie.Need-returns
-returns c = record { fits = λ x o. fitted-not ((c .before .before .put-reason .ensures .wrote) x o) (c .before .before .put-reason .ensures .short) (c .if1 .taken) }
+returns c = record { fits = λ W x o. fitted-not ((c .before .before .put-reason .ensures .wrote) W x o) (c .before .before .put-reason .ensures .short) (c .if1 .taken) }
 
 put-reason-requires-2 : tie.Need-put-reason-requires-2
 put-reason-requires-2 c κs = c .before .before .before .before .before .before .before .before .pre
@@ -21,7 +21,7 @@ same-length : tie.Need-same-length
 same-length c = search needs
 
 returns-2 : tie.Need-returns-2
-returns-2 c = record { fits = λ x o. fitted-whole ((c .before .before .before .before .before .before .put-reason .ensures .wrote) x o) (omega (arith, (c .before .before .before .before .if1 .left))) ((c .before .before .put-reason2 .ensures .wrote) x o) (c .before .before .put-reason2 .ensures .short) }
+returns-2 c = record { fits = λ W x o. fitted-whole ((c .before .before .before .before .before .before .put-reason .ensures .wrote) W x o) (omega (arith, (c .before .before .before .before .if1 .left))) ((c .before .before .put-reason2 .ensures .wrote) W x o) (c .before .before .put-reason2 .ensures .short) }
 
 pub fit-spec : {M : Type 1} → statement M
 fit-spec =

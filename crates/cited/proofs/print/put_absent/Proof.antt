@@ -5,6 +5,7 @@ use lib.ListN.{length}
 use Rattle.text.specs.laws.Text.{wrote-none, wrote-then}
 use Rattle.printed.specs.laws.Lines.{name-short}
 use Rattle.cited.specs.Text.{absentText}
+use Rattle.field.specs.own.Table.{conceptsFrom}
 use borrow.Author.Needs.{needs}
 use Rattle.cited.proofs.print.put_absent.Statement.{statement}
 use Rattle.cited.proofs.print.put_absent.Tie as tie
@@ -25,10 +26,10 @@ concept-requires : tie.Need-concept-requires
 concept-requires c κs = search needs
 
 put-all-requires-2 : tie.Need-put-all-requires-2
-put-all-requires-2 c κs = let x = c .before .before .before .before .before .before .before .before .before .before .before .before .before .before .before .before .before .before .before .args in let y = c .before .before .before .before .before .before .before .before .before .before .before .before .before .before .before .before .before .before .before .pre .0 in (omega (arith, (c .before .before .before .before .put .ensures .next), (c .before .before .before .before .before .before .before .before .put-name .ensures .1), (c .before .before .before .before .before .before .before .before .before .before .before .before .put-all .ensures .next)), rw (c .concept .ensures) (omega (arith, name-short (x .sheet .now) (x .names .now) 0 (x .counts .concepts) (omega (arith, y .long, y .room .concepts)) (x .a .concept))))
+put-all-requires-2 c κs = let x = c .before .before .before .before .before .before .before .before .before .before .before .before .before .before .before .before .before .before .before .args in let y = c .before .before .before .before .before .before .before .before .before .before .before .before .before .before .before .before .before .before .before .pre .0 in (omega (arith, (c .before .before .before .before .put .ensures .next), (c .before .before .before .before .before .before .before .before .put-name .ensures .1), (c .before .before .before .before .before .before .before .before .before .before .before .before .put-all .ensures .next)), rw (c .concept .ensures) (omega (arith, name-short (x .sheet .now) (x .names .now) conceptsFrom (x .counts .concepts) (omega (arith, y .long, y .room .concepts)) (x .a .concept))))
 
 put-requires-2 : tie.Need-put-requires-2
-put-requires-2 c κs = let x = c .before .before .before .before .before .before .before .before .before .before .before .before .before .before .before .before .before .before .before .before .before .before .before .args in let y = c .before .before .before .before .before .before .before .before .before .before .before .before .before .before .before .before .before .before .before .before .before .before .before .pre .0 in omega (arith, (c .before .before .before .put-all2 .ensures .next), ap length (c .before .before .before .before .concept .ensures), name-short (x .sheet .now) (x .names .now) 0 (x .counts .concepts) (omega (arith, y .long, y .room .concepts)) (x .a .concept), (c .before .before .before .before .before .before .before .before .put .ensures .next), (c .before .before .before .before .before .before .before .before .before .before .before .before .put-name .ensures .1), (c .before .before .before .before .before .before .before .before .before .before .before .before .before .before .before .before .put-all .ensures .next))
+put-requires-2 c κs = let x = c .before .before .before .before .before .before .before .before .before .before .before .before .before .before .before .before .before .before .before .before .before .before .before .args in let y = c .before .before .before .before .before .before .before .before .before .before .before .before .before .before .before .before .before .before .before .before .before .before .before .pre .0 in omega (arith, (c .before .before .before .put-all2 .ensures .next), ap length (c .before .before .before .before .concept .ensures), name-short (x .sheet .now) (x .names .now) conceptsFrom (x .counts .concepts) (omega (arith, y .long, y .room .concepts)) (x .a .concept), (c .before .before .before .before .before .before .before .before .put .ensures .next), (c .before .before .before .before .before .before .before .before .before .before .before .before .put-name .ensures .1), (c .before .before .before .before .before .before .before .before .before .before .before .before .before .before .before .before .put-all .ensures .next))
 
 same-length : tie.Need-same-length
 same-length c = search needs
@@ -38,7 +39,7 @@ unfolding absentText
 returns c =
     let x = c .before .before .before .before .before .before .before .before .before .before .before .before .before .before .before .before .before .before .before .before .before .before .before .before .before .before .args in let y = c .before .before .before .before .before .before .before .before .before .before .before .before .before .before .before .before .before .before .before .before .before .before .before .before .before .before .pre .0 in
     let w = wrote-then (wrote-then (wrote-then (c .before .before .before .before .before .before .before .before .before .before .before .before .before .before .before .before .before .before .before .put-all .ensures) (c .before .before .before .before .before .before .before .before .before .before .before .before .before .before .before .put-name .ensures .0)) (wrote-then (c .before .before .before .before .before .before .before .before .before .before .before .put .ensures) (rw (c .before .before .before .before .before .before .before .concept .ensures) at (c .before .before .before .before .before .before .put-all2 .ensures)))) (c .before .before .put2 .ensures) in
-    rw (c .before .before .before .before .before .before .before .before .before .before .before .before .before .before .before .before .before .before .before .before .before .before .if1 .taken) (w, omega (arith, (c .before .before .put2 .ensures .next), (c .before .before .before .before .before .before .put-all2 .ensures .next), ap length (c .before .before .before .before .before .before .before .concept .ensures), name-short (x .sheet .now) (x .names .now) 0 (x .counts .concepts) (omega (arith, y .long, y .room .concepts)) (x .a .concept), (c .before .before .before .before .before .before .before .before .before .before .before .put .ensures .next), (c .before .before .before .before .before .before .before .before .before .before .before .before .before .before .before .put-name .ensures .1), (c .before .before .before .before .before .before .before .before .before .before .before .before .before .before .before .before .before .before .before .put-all .ensures .next)))
+    rw (c .before .before .before .before .before .before .before .before .before .before .before .before .before .before .before .before .before .before .before .before .before .before .if1 .taken) (w, omega (arith, (c .before .before .put2 .ensures .next), (c .before .before .before .before .before .before .put-all2 .ensures .next), ap length (c .before .before .before .before .before .before .before .concept .ensures), name-short (x .sheet .now) (x .names .now) conceptsFrom (x .counts .concepts) (omega (arith, y .long, y .room .concepts)) (x .a .concept), (c .before .before .before .before .before .before .before .before .before .before .before .put .ensures .next), (c .before .before .before .before .before .before .before .before .before .before .before .before .before .before .before .put-name .ensures .1), (c .before .before .before .before .before .before .before .before .before .before .before .before .before .before .before .before .before .before .before .put-all .ensures .next)))
 
 returns-2 : tie.Need-returns-2
 returns-2 c = rw (c .if1 .left) (wrote-none _ _, omega arith)

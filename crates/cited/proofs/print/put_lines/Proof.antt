@@ -25,7 +25,7 @@ line-is sheet at h = ap (λ (i : ℕ). partOf sheet at (i - at)) h
 
 abbrev Inv-loop : tie.InvT-loop
 Inv-loop sheet marks room₀ ends₀ at₀ line₀ n₀ p₀ room ends at line n p =
-    ((x : Said) → outcome sheet ≡ accepted x → Written sheet x marks room₀ room p n at line) × (line ≤ at + 2) × (p .at ≤ 15 * at) × (p .total ≤ at) × (n ≤ at) × (at ≤ length sheet + 1) × (length room ≡ length room₀) × (length ends ≡ lineLimit + 1)
+    ((W : ℕ) (x : Said) → outcome W sheet ≡ accepted x → Written sheet x marks room₀ room p n at line) × (line ≤ at + 2) × (p .at ≤ 15 * at) × (p .total ≤ at) × (n ≤ at) × (at ≤ length sheet + 1) × (length room ≡ length room₀) × (length ends ≡ lineLimit + 1)
 
 abbrev μ-loop : tie.MeasureT-loop
 μ-loop sheet marks room₀ ends₀ at₀ line₀ n₀ p₀ room ends at line n p = length sheet + 1 - at
@@ -37,7 +37,7 @@ add-at : tie.Need-add-at Inv-loop μ-loop
 add-at c = omega (arith, (c .end-of .ensures), end-le 10 (c .before .before .before .args .sheet .now) 0 zero-le, sheet-short (c .before .before .before .pre))
 
 loop-holds : tie.Need-loop-holds Inv-loop μ-loop
-loop-holds c = ((λ x o. written-start (standing-start (c .before .before .before .args .sheet .now) x _ (c .end-of .ensures) o)), omega arith, omega arith, omega arith, omega arith, omega (arith, (c .end-of .ensures), end-le 10 (c .before .before .before .args .sheet .now) 0 zero-le), refl, refl)
+loop-holds c = ((λ W x o. written-start (standing-start W (c .before .before .before .args .sheet .now) x _ (c .end-of .ensures) o)), omega arith, omega arith, omega arith, omega arith, omega (arith, (c .end-of .ensures), end-le 10 (c .before .before .before .args .sheet .now) 0 zero-le), refl, refl)
 
 slice-aggregate-look-from : tie.Need-slice-aggregate-look-from Inv-loop μ-loop
 slice-aggregate-look-from c = search needs
@@ -65,11 +65,11 @@ slice-aggregate-is-statement c = sym (length-take-le _ _ (omega (arith, c .befor
 
 is-statement-requires : tie.Need-is-statement-requires Inv-loop μ-loop
 is-statement-requires c κs =
-    let few = written-short ((c .before .before .before .before .before .before .before .loop .inv .0) (c .before .before .before .before .before .before .before .before .before .before .before .pre .said) (c .before .before .before .before .before .before .before .before .before .before .before .pre .ends)) (c .before .before .before .before .look-from .result .end) (lineAt (c .before .before .before .before .before .before .before .before .before .before .before .args .sheet .now) (c .before .before .before .before .before .before .before .loop .at)) (omega (arith, c .before .before .before .before .before .before .loop-test .taken)) (c .before .before .before .before .look-from .ensures .end) refl in
+    let few = written-short ((c .before .before .before .before .before .before .before .loop .inv .0) (c .before .before .before .before .before .before .before .before .before .before .before .pre .width) (c .before .before .before .before .before .before .before .before .before .before .before .pre .said) (c .before .before .before .before .before .before .before .before .before .before .before .pre .ends)) (c .before .before .before .before .look-from .result .end) (lineAt (c .before .before .before .before .before .before .before .before .before .before .before .args .sheet .now) (c .before .before .before .before .before .before .before .loop .at)) (omega (arith, c .before .before .before .before .before .before .loop-test .taken)) (c .before .before .before .before .look-from .ensures .end) refl in
     rw (c .before .before .before .before .look-from .ensures .end) (looked (c .before .before .before .before .look-from .ensures) _ (c .before .before .lesser .ensures ∙ ap (min (c .before .before .before .before .look-from .result .count)) (sym (c .before .before .before .before .before .before .before .loop .inv .7))) (omega (arith, few, c .before .before .before .before .before .before .before .loop .inv .7)))
 
 marked-if-requires : tie.Need-marked-if-requires Inv-loop μ-loop
-marked-if-requires c κs = λ e. omega (arith, (c .before .before .before .before .before .before .before .before .before .before .before .before .pre .few), written-few ((c .before .before .before .before .before .before .before .before .loop .inv .0) (c .before .before .before .before .before .before .before .before .before .before .before .before .pre .said) (c .before .before .before .before .before .before .before .before .before .before .before .before .pre .ends)) _ _ (omega (arith, (c .before .before .before .before .before .before .before .loop-test .taken))) (c .before .before .before .before .before .look-from .ensures .end) (line-is (c .before .before .before .before .before .before .before .before .before .before .before .before .args .sheet .now) (c .before .before .before .before .before .before .before .before .loop .at) (c .before .before .before .before .before .look-from .ensures .end)) (sym (c .is-statement .ensures) ∙ e))
+marked-if-requires c κs = λ e. omega (arith, (c .before .before .before .before .before .before .before .before .before .before .before .before .pre .few), written-few ((c .before .before .before .before .before .before .before .before .loop .inv .0) (c .before .before .before .before .before .before .before .before .before .before .before .before .pre .width) (c .before .before .before .before .before .before .before .before .before .before .before .before .pre .said) (c .before .before .before .before .before .before .before .before .before .before .before .before .pre .ends)) _ _ (omega (arith, (c .before .before .before .before .before .before .before .loop-test .taken))) (c .before .before .before .before .before .look-from .ensures .end) (line-is (c .before .before .before .before .before .before .before .before .before .before .before .before .args .sheet .now) (c .before .before .before .before .before .before .before .before .loop .at) (c .before .before .before .before .before .look-from .ensures .end)) (sym (c .is-statement .ensures) ∙ e))
 
 put-line-if-requires : tie.Need-put-line-if-requires Inv-loop μ-loop
 put-line-if-requires c κs = (omega (arith, (c .before .before .before .before .before .before .before .before .before .before .loop .inv .2), (c .before .before .before .before .before .before .before .before .before .before .loop .inv .5), sheet-short (c .before .before .before .before .before .before .before .before .before .before .before .before .before .before .pre)), omega (arith, (c .before .before .before .before .before .before .before .before .before .before .loop .inv .3), (c .before .before .before .before .before .before .before .before .before .before .loop .inv .5), sheet-short (c .before .before .before .before .before .before .before .before .before .before .before .before .before .before .pre)), omega (arith, part-length (c .before .before .before .before .before .before .before .before .before .before .before .before .before .before .args .sheet .now) (c .before .before .before .before .before .before .before .before .before .before .loop .at) (c .before .before .before .before .before .before .before .look-from .result .end), (c .before .before .before .before .before .before .before .look-from .ensures .end), end-le 10 (c .before .before .before .before .before .before .before .before .before .before .before .before .before .before .args .sheet .now) (c .before .before .before .before .before .before .before .before .before .before .loop .at) (omega (arith, (c .before .before .before .before .before .before .before .before .before .loop-test .taken))), sheet-short (c .before .before .before .before .before .before .before .before .before .before .before .before .before .before .pre)))
@@ -90,7 +90,7 @@ loop-again : tie.Need-loop-again Inv-loop μ-loop
 loop-again c =
     let long = part-length (c .before .before .before .before .before .before .before .before .before .before .before .before .before .before .before .before .before .before .args .sheet .now) (c .before .before .before .before .before .before .before .before .before .before .before .before .before .before .loop .at) (c .before .before .before .before .before .before .before .before .before .before .before .look-from .result .end) in
     let past = end-ge 10 (c .before .before .before .before .before .before .before .before .before .before .before .before .before .before .before .before .before .before .args .sheet .now) (c .before .before .before .before .before .before .before .before .before .before .before .before .before .before .loop .at) in (
-      (λ x o. written-next ((c .before .before .before .before .before .before .before .before .before .before .before .before .before .before .loop .inv .0) x o) _ _ (omega (arith, (c .before .before .before .before .before .before .before .before .before .before .before .before .before .loop-test .taken))) (c .before .before .before .before .before .before .before .before .before .before .before .look-from .ensures .end) (line-is (c .before .before .before .before .before .before .before .before .before .before .before .before .before .before .before .before .before .before .args .sheet .now) (c .before .before .before .before .before .before .before .before .before .before .before .before .before .before .loop .at) (c .before .before .before .before .before .before .before .before .before .before .before .look-from .ensures .end)) _ ((c .before .before .before .before .before .marked-if .ensures) ∙ ap (λ (s : Bool). cond s (rowHasb (c .before .before .before .before .before .before .before .before .before .before .before .before .before .before .before .before .before .before .args .marks .now) (c .before .before .before .before .before .before .before .before .before .before .before .before .before .before .loop .n)) false) (c .before .before .before .before .before .before .is-statement .ensures)) (c .before .before .before .put-line-if .ensures) ((c .more-if .ensures) ∙ ap (λ (s : Bool). (c .before .before .before .before .before .before .before .before .before .before .before .before .before .before .loop .n) + cond s 1 0) (c .before .before .before .before .before .before .is-statement .ensures))),
+      (λ W x o. written-next ((c .before .before .before .before .before .before .before .before .before .before .before .before .before .before .loop .inv .0) W x o) _ _ (omega (arith, (c .before .before .before .before .before .before .before .before .before .before .before .before .before .loop-test .taken))) (c .before .before .before .before .before .before .before .before .before .before .before .look-from .ensures .end) (line-is (c .before .before .before .before .before .before .before .before .before .before .before .before .before .before .before .before .before .before .args .sheet .now) (c .before .before .before .before .before .before .before .before .before .before .before .before .before .before .loop .at) (c .before .before .before .before .before .before .before .before .before .before .before .look-from .ensures .end)) _ ((c .before .before .before .before .before .marked-if .ensures) ∙ ap (λ (s : Bool). cond s (rowHasb (c .before .before .before .before .before .before .before .before .before .before .before .before .before .before .before .before .before .before .args .marks .now) (c .before .before .before .before .before .before .before .before .before .before .before .before .before .before .loop .n)) false) (c .before .before .before .before .before .before .is-statement .ensures)) (c .before .before .before .put-line-if .ensures) ((c .more-if .ensures) ∙ ap (λ (s : Bool). (c .before .before .before .before .before .before .before .before .before .before .before .before .before .before .loop .n) + cond s 1 0) (c .before .before .before .before .before .before .is-statement .ensures))),
       omega (arith, (c .before .before .before .before .before .before .before .before .before .before .before .before .before .before .loop .inv .1), past, (c .before .before .before .before .before .before .before .before .before .before .before .look-from .ensures .end)),
       room-grows _ ((c .before .before .before .before .before .marked-if .ensures) ∙ ap (λ (s : Bool). cond s (rowHasb (c .before .before .before .before .before .before .before .before .before .before .before .before .before .before .before .before .before .before .args .marks .now) (c .before .before .before .before .before .before .before .before .before .before .before .before .before .before .loop .n)) false) (c .before .before .before .before .before .before .is-statement .ensures)) (c .before .before .before .put-line-if .ensures) long (omega (arith, past, (c .before .before .before .before .before .before .before .before .before .before .before .look-from .ensures .end))) (c .before .before .before .before .before .before .before .before .before .before .before .before .before .before .loop .inv .2),
       omega (arith, (c .before .before .before .put-line-if .ensures .total), one-at-most (c .before .before .before .before .before .marked-if .result), (c .before .before .before .before .before .before .before .before .before .before .before .before .before .before .loop .inv .3), past, (c .before .before .before .before .before .before .before .before .before .before .before .look-from .ensures .end)),
@@ -105,7 +105,7 @@ same-length c = search needs
 
 returns : tie.Need-returns Inv-loop μ-loop
 returns c =
-    record { wrote = λ x o. written-end (omega (arith, (c .loop-test .left))) ((c .before .loop .inv .0) x o) .0; total = λ x o. written-end (omega (arith, (c .loop-test .left))) ((c .before .loop .inv .0) x o) .1; short = omega (arith, (c .before .loop .inv .2), (c .before .loop .inv .5), sheet-short (c .before .before .before .before .before .pre)); few = omega (arith, (c .before .loop .inv .3), (c .before .loop .inv .5), sheet-short (c .before .before .before .before .before .pre)) }
+    record { wrote = λ W x o. written-end (omega (arith, (c .loop-test .left))) ((c .before .loop .inv .0) W x o) .0; total = λ W x o. written-end (omega (arith, (c .loop-test .left))) ((c .before .loop .inv .0) W x o) .1; short = omega (arith, (c .before .loop .inv .2), (c .before .loop .inv .5), sheet-short (c .before .before .before .before .before .pre)); few = omega (arith, (c .before .loop .inv .3), (c .before .loop .inv .5), sheet-short (c .before .before .before .before .before .pre)) }
 
 pub put-lines-spec : {M : Type 1} → statement M
 put-lines-spec =

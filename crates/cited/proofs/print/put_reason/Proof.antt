@@ -18,7 +18,7 @@ same-length : tie.Need-same-length
 same-length c = search needs
 
 returns : tie.Need-returns
-returns c = record { wrote = λ x o. rw (← (c .before .before .before .before .before .before .before .before .before .before .put-lines .ensures .total) x o) (wrote-then (wrote-then ((c .before .before .before .before .before .before .before .before .before .before .put-lines .ensures .wrote) x o) (c .before .before .before .before .before .before .put-absent .ensures .0)) (c .before .before .total .ensures .0)); short = omega (arith, (c .before .before .before .before .before .before .before .before .before .before .put-lines .ensures .short), (c .before .before .before .before .before .before .put-absent .ensures .1), (c .before .before .total .ensures .1)) }
+returns c = record { wrote = λ W x o. rw (← (c .before .before .before .before .before .before .before .before .before .before .put-lines .ensures .total) W x o) (wrote-then (wrote-then ((c .before .before .before .before .before .before .before .before .before .before .put-lines .ensures .wrote) W x o) (c .before .before .before .before .before .before .put-absent .ensures .0)) (c .before .before .total .ensures .0)); short = omega (arith, (c .before .before .before .before .before .before .before .before .before .before .put-lines .ensures .short), (c .before .before .before .before .before .before .put-absent .ensures .1), (c .before .before .total .ensures .1)) }
 
 pub put-reason-spec : {M : Type 1} → statement M
 put-reason-spec =

@@ -14,21 +14,21 @@ use Rattle.field.proofs.names.find.Tie as tie
 hint-at-requires : tie.Need-hint-at-requires
 hint-at-requires c κs = search needs
 
-mul-hinted : tie.Need-mul-hinted
-mul-hinted c = search needs
+mul-number : tie.Need-mul-number
+mul-number c = search needs
 
-shared-slice-read-hinted : tie.Need-shared-slice-read-hinted
-shared-slice-read-hinted c = search needs
+shared-slice-read-number : tie.Need-shared-slice-read-number
+shared-slice-read-number c = search needs
 
-hinted-requires : tie.Need-hinted-requires
-hinted-requires c κs = search needs
+number-requires : tie.Need-number-requires
+number-requires c κs = search needs
 
 returns : tie.Need-returns
 returns c =
     let x = c .before .before .before .before .before .before .before .args in
     let p = c .before .before .before .before .before .before .before .pre in
     let k = c .before .before .before .hint-at .ensures .0 in
-    unhinted (x .sheet .now) (x .names .now) (x .from) (x .n) (x .w .now) (omega (arith, p .0, p .1)) (p .4) (ap (λ (i : ℕ). getD (x .names .now) i 0) (sym k) ∙ sym (c .before .hinted .ensures) ∙ c .if1 .taken)
+    unhinted (x .sheet .now) (x .names .now) (x .from) (x .n) (x .w .now) (p .2) (p .4) (ap (λ (i : ℕ). getD (x .names .now) i 0) (sym k) ∙ sym (c .before .number .ensures) ∙ c .if1 .taken)
 
 tag-requires : tie.Need-tag-requires
 tag-requires c κs = search needs
@@ -55,7 +55,7 @@ returns-2 : tie.Need-returns-2
 returns-2 c =
     let x = c .before .before .before .before .before .before .before .before .before .before .before .before .args in
     let p = c .before .before .before .before .before .before .before .before .before .before .before .before .pre in
-    hinted (x .sheet .now) (x .names .now) (x .from) (x .n) (omega (arith, p .0, p .1)) (x .w .now) _ (omega (arith, c .before .before .before .before .before .if1 .left, c .before .before .before .if2 .taken)) (p .3) (sym (c .before .entry-is .ensures) ∙ c .if3 .taken)
+    hinted (x .sheet .now) (x .names .now) (x .from) (x .n) (p .2) (x .w .now) _ (omega (arith, c .before .before .before .before .before .if1 .left, c .before .before .before .if2 .taken)) (p .3) (sym (c .before .entry-is .ensures) ∙ c .if3 .taken)
 
 add-place-in : tie.Need-add-place-in
 add-place-in c = search needs
@@ -80,7 +80,7 @@ returns-3 c =
     let x = c .before .before .before .before .before .before .before .before .before .before .before .before .before .before .args in
     let p = c .before .before .before .before .before .before .before .before .before .before .before .before .before .before .pre in
     let e : x .from + x .n - x .from ≡ x .n = omega arith in
-    record { place = c .place-in .ensures ∙ ap (λ (k : ℕ). place (x .w .now) (map (nameAt (x .sheet .now)) (take k (drop (x .from) (x .names .now))))) e; count = entered-length (x .sheet .now) (x .names .now) (x .from) (x .n) (omega (arith, p .0, p .1)) }
+    record { place = c .place-in .ensures ∙ ap (λ (k : ℕ). place (x .w .now) (map (nameAt (x .sheet .now)) (take k (drop (x .from) (x .names .now))))) e; count = entered-length (x .sheet .now) (x .names .now) (x .from) (x .n) (p .2) }
 
 add-place-in-2 : tie.Need-add-place-in-2
 add-place-in-2 c = search needs
@@ -105,16 +105,16 @@ returns-4 c =
     let x = c .before .before .before .before .before .before .before .before .before .before .before .args in
     let p = c .before .before .before .before .before .before .before .before .before .before .before .pre in
     let e : x .from + x .n - x .from ≡ x .n = omega arith in
-    record { place = c .place-in2 .ensures ∙ ap (λ (k : ℕ). place (x .w .now) (map (nameAt (x .sheet .now)) (take k (drop (x .from) (x .names .now))))) e; count = entered-length (x .sheet .now) (x .names .now) (x .from) (x .n) (omega (arith, p .0, p .1)) }
+    record { place = c .place-in2 .ensures ∙ ap (λ (k : ℕ). place (x .w .now) (map (nameAt (x .sheet .now)) (take k (drop (x .from) (x .names .now))))) e; count = entered-length (x .sheet .now) (x .names .now) (x .from) (x .n) (p .2) }
 
 pub find-spec : {M : Type 1} → statement M
 find-spec =
     tie.close
     (tie.spec
     hint-at-requires
-    mul-hinted
-    shared-slice-read-hinted
-    hinted-requires
+    mul-number
+    shared-slice-read-number
+    number-requires
     returns
     tag-requires
     sub-entry-is

@@ -2,6 +2,7 @@
 use native.Mathlib.Omega.{arith}
 use Prim.Native.Nat.{_+_}
 use borrow.Author.Needs.{needs}
+use lib.ListN.{length-set}
 use Rattle.field.specs.laws.Table.{noted-both}
 use Rattle.field.proofs.tables.note.Statement.{statement}
 use Rattle.field.proofs.tables.note.Tie as tie
@@ -31,7 +32,9 @@ mul-names-2 : tie.Need-mul-names-2
 mul-names-2 c = search needs
 
 slice-write-names-2 : tie.Need-slice-write-names-2
-slice-write-names-2 c = search needs
+slice-write-names-2 c =
+    let p = c .before .before .before .before .pre in
+    rw length-set (omega (arith, c .before .hint-at .ensures .1, p .0, p .2))
 
 same-length : tie.Need-same-length
 same-length c = search needs
@@ -40,7 +43,8 @@ returns : tie.Need-returns
 returns c =
     let x = c .before .before .before .before .args in
     let h = c .before .hint-at .ensures .0 in
-    noted-both (x .names .now) (x .from + x .n) (c .entry .result) _ (c .before .hint-at .result) _ (x .n) (omega (arith, h)) h (omega (arith, c .before .hint-at .ensures .1, c .before .before .before .before .pre .0)) (c .before .before .before .before .pre .1) (c .entry .ensures)
+    let p = c .before .before .before .before .pre in
+    noted-both (x .names .now) (x .from + x .n) (c .entry .result) _ (c .before .hint-at .result) _ (x .n) (c .before .hint-at .ensures .1) h (omega (arith, p .0)) (p .2) (c .entry .ensures)
 
 pub note-spec : {M : Type 1} → statement M
 note-spec =

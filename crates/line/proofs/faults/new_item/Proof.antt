@@ -3,6 +3,7 @@ use mathlib.Core.Path.{sym, ap, _∙_}
 use Rattle.field.specs.own.Table.{namesOf, tableOf}
 use mathlib.Core.Bool.{not}
 use Rattle.field.specs.laws.Names.{new-item-none, new-item-date, new-item-name, new-at}
+use native.Mathlib.Omega.{arith}
 use borrow.Author.Needs.{needs}
 use Rattle.line.proofs.faults.new_item.Statement.{statement}
 use Rattle.line.proofs.faults.new_item.Tie as tie
@@ -26,15 +27,18 @@ returns-2 c =
 item-requires : tie.Need-item-requires
 item-requires c κs = search needs
 
+room-requires : tie.Need-room-requires
+room-requires c κs = omega (arith, c .before .before .before .before .before .before .before .before .pre .long)
+
 new-name-requires : tie.Need-new-name-requires
 new-name-requires c κs = search needs
 
 returns-3 : tie.Need-returns-3
 returns-3 c =
-    let x = c .before .before .before .before .before .before .before .before .before .args in
+    let x = c .before .before .before .before .before .before .before .before .before .before .args in
     c .new-name .ensures
-    ∙ new-at _ _ _ _ (c .before .item .ensures) _
-    ∙ new-item-name (namesOf (x .sheet .now) (tableOf (x .names .now) (x .counts))) (x .f .now) (ap not (sym (c .before .before .before .before .before .is-name .ensures)) ∙ c .before .before .before .before .if1 .left) (sym (c .before .before .before .date-shaped .ensures) ∙ c .before .before .if2 .left)
+    ∙ rw (c .before .room .ensures) (new-at _ _ _ _ (c .before .before .item .ensures) _)
+    ∙ new-item-name (namesOf (x .sheet .now) (tableOf (x .names .now) (x .counts))) (x .f .now) (ap not (sym (c .before .before .before .before .before .before .is-name .ensures)) ∙ c .before .before .before .before .before .if1 .left) (sym (c .before .before .before .before .date-shaped .ensures) ∙ c .before .before .before .if2 .left)
 
 pub new-item-spec : {M : Type 1} → statement M
 new-item-spec =
@@ -45,5 +49,6 @@ new-item-spec =
     date-shaped-requires
     returns-2
     item-requires
+    room-requires
     new-name-requires
     returns-3)

@@ -8,13 +8,13 @@ straight-requires : tie.Need-straight-requires
 straight-requires c κs = search needs
 
 above-way-requires : tie.Need-above-way-requires
-above-way-requires c κs = rw (c .straight .ensures) (straight-near (c .before .pre .0) (c .before .pre .1))
+above-way-requires c κs = (c .before .before .pre .0, rw (c .straight .ensures) (straight-near (c .before .before .pre .1) (c .before .before .pre .2)))
 
 turned-requires : tie.Need-turned-requires
 turned-requires c κs = search needs
 
 above-way-requires-2 : tie.Need-above-way-requires-2
-above-way-requires-2 c κs = rw (c .turned .ensures) (turned-near (c .before .before .before .pre .0) (c .before .before .before .pre .1))
+above-way-requires-2 c κs = (c .before .before .before .before .pre .0, rw (c .turned .ensures) (turned-near (c .before .before .before .before .pre .1) (c .before .before .before .before .pre .2)))
 
 returns : tie.Need-returns
 returns c = rw (c .above-way2 .ensures, c .before .turned .ensures, c .before .before .above-way .ensures, c .before .before .before .straight .ensures)

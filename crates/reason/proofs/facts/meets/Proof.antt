@@ -8,13 +8,13 @@ straight-requires : tie.Need-straight-requires
 straight-requires c κs = search needs
 
 opens-requires : tie.Need-opens-requires
-opens-requires c κs = rw (c .straight .ensures) (straight-near (c .before .pre .0) (c .before .pre .1))
+opens-requires c κs = (c .before .before .before .pre .0, c .before .before .before .pre .1, rw (c .straight .ensures) (straight-near (c .before .before .before .pre .2) (c .before .before .before .pre .3)))
 
 turned-requires : tie.Need-turned-requires
 turned-requires c κs = search needs
 
 opens-requires-2 : tie.Need-opens-requires-2
-opens-requires-2 c κs = rw (c .turned .ensures) (turned-near (c .before .before .before .pre .0) (c .before .before .before .pre .1))
+opens-requires-2 c κs = (c .before .before .before .before .before .pre .0, c .before .before .before .before .before .pre .1, rw (c .turned .ensures) (turned-near (c .before .before .before .before .before .pre .2) (c .before .before .before .before .before .pre .3)))
 
 either-requires : tie.Need-either-requires
 either-requires c κs = search needs

@@ -2,7 +2,7 @@
 use native.Mathlib.Omega.{arith}
 use mir.Syntax.{w64}
 use mir.ValLaws.{toZ-ofZ}
-use Rattle.report.specs.laws.Short.{pages-in-short}
+use Rattle.report.specs.laws.Short.{pages-in-short, text-most}
 use Rattle.saltreeve.specs.laws.Check.{check-in-by}
 use borrow.Author.Needs.{needs}
 use Rattle.saltreeve.proofs.checks.check_in_aside.Statement.{statement}
@@ -18,7 +18,7 @@ slice-aggregate-hand : tie.Need-slice-aggregate-hand
 slice-aggregate-hand c = search needs
 
 hand-requires : tie.Need-hand-requires
-hand-requires c κs = let z = pages-in-short (c .before .before .before .before .before .page-in .ensures) in (omega arith, omega arith)
+hand-requires c κs = let z = pages-in-short (c .before .before .before .before .before .page-in .ensures) in let most = text-most (c .before .before .before .before .before .before .before .before .before .before .before .args .words .now) in (omega arith, omega arith)
 
 same-length : tie.Need-same-length
 same-length c = search needs
@@ -27,7 +27,7 @@ same-length-2 : tie.Need-same-length-2
 same-length-2 c = search needs
 
 returns : tie.Need-returns
-returns c = rw (toZ-ofZ w64 (c .before .before .hand .result) (record { sfits = omega (arith, c .before .before .hand .ok) })) (check-in-by (c .before .before .before .before .before .before .before .before .page-in .ensures) (omega (arith, pages-in-short (c .before .before .before .before .before .before .before .before .page-in .ensures))) (c .before .before .hand .ensures))
+returns c = rw (toZ-ofZ w64 (c .before .before .hand .result) (record { sfits = omega (arith, c .before .before .hand .ok) })) (check-in-by (c .before .before .before .before .before .before .before .before .page-in .ensures) (omega (arith, pages-in-short (c .before .before .before .before .before .before .before .before .page-in .ensures), text-most (c .before .before .before .before .before .before .before .before .before .before .before .before .before .before .args .words .now))) (c .before .before .hand .ensures))
 
 pub check-in-aside-spec : {M : Type 1} → statement M
 check-in-aside-spec =

@@ -8,23 +8,25 @@ use lib.Seq.{length-take-le}
 use Rattle.text.specs.own.Split.{partOf, partsFrom}
 use Rattle.text.specs.laws.Split.{end-ge, end-le}
 use Rattle.field.specs.laws.Looked.{looked}
+use Rattle.store.specs.laws.Laid.{laid-is, laid-of}
+use Rattle.field.specs.own.Table.{roomOf}
 use Rattle.sheet.specs.Said.{nothing, outcomeFrom}
 use Rattle.sheet.specs.laws.Lines.{Reads, reads-comes, reads-end, reads-on, reads-start, reads-stop}
 use Rattle.sheet.proofs.sheets.read_lines.Statement.{statement}
 use Rattle.sheet.proofs.sheets.read_lines.Tie as tie
 
 abbrev Inv-loop : tie.InvT-loop
-Inv-loop sheet words₀ names₀ from ends₀ at₀ line₀ kept₀ start₀ words names ends at line kept start =
-    Reads sheet (outcomeFrom 2 nothing (partsFrom 10 sheet from)) at line kept names words start × (length words ≡ length words₀) × (length names ≡ length names₀) × (length ends ≡ 513)
+Inv-loop sheet words₀ layout names₀ from ends₀ at₀ line₀ kept₀ start₀ words names ends at line kept start =
+    Reads (layout .width) sheet (outcomeFrom 2 (nothing (roomOf names₀)) (partsFrom 10 sheet from)) at line kept names words start × (length words ≡ length words₀) × (length names ≡ length names₀) × (length ends ≡ 513)
 
 abbrev μ-loop : tie.MeasureT-loop
-μ-loop sheet words₀ names₀ from ends₀ at₀ line₀ kept₀ start₀ words names ends at line kept start = length sheet + 1 - at
+μ-loop sheet words₀ layout names₀ from ends₀ at₀ line₀ kept₀ start₀ words names ends at line kept start = length sheet + 1 - at
 
 blank-requires : tie.Need-blank-requires Inv-loop μ-loop
 blank-requires c κs = search needs
 
 loop-holds : tie.Need-loop-holds Inv-loop μ-loop
-loop-holds c = (rw (c .blank .ensures, c .before .before .before .before .pre .1) (reads-start _ _ _ (c .before .before .before .before .pre .3) (c .before .before .before .before .pre .2)), refl, refl, search needs)
+loop-holds c = (rw (c .blank .ensures, c .before .before .before .before .pre .1) (reads-start _ _ _ _ _ (c .before .before .before .before .pre .4) (c .before .before .before .before .pre .2) refl (c .before .before .before .before .pre .3)), refl, refl, search needs)
 
 slice-aggregate-look-from : tie.Need-slice-aggregate-look-from Inv-loop μ-loop
 slice-aggregate-look-from c = search needs
@@ -53,13 +55,13 @@ slice-aggregate-read c = sym (length-take-le _ _ (omega (arith, c .before .befor
 read-requires : tie.Need-read-requires Inv-loop μ-loop
 read-requires c κs =
     let is = ap (λ (k : ℕ). partOf (c .before .before .before .before .before .before .before .before .before .before .before .before .before .before .args .sheet .now) (c .before .before .before .before .before .before .before .before .before .loop .at) (k - c .before .before .before .before .before .before .before .before .before .loop .at)) (c .before .before .before .before .before .before .look-from .ensures .end) in
-    reads-comes (c .before .before .before .before .before .before .before .before .before .before .before .before .before .before .pre .0) (c .before .before .before .before .before .before .before .before .before .loop .inv .0) _ (omega (arith, c .before .before .before .before .before .before .before .before .loop-test .taken)) is (rw is (c .before .before .before .before .before .before .look-from .ensures .good)) (λ short. rw is (looked (c .before .before .before .before .before .before .look-from .ensures) (c .before .before .before .before .lesser .result) (omega (arith, c .before .before .before .before .lesser .ensures, c .before .before .before .before .before .before .before .before .before .loop .inv .3)) (omega (arith, short, ap length is, c .before .before .before .before .before .before .before .before .before .loop .inv .3))))
+    (reads-comes (c .before .before .before .before .before .before .before .before .before .before .before .before .before .before .pre .0) (c .before .before .before .before .before .before .before .before .before .loop .inv .0) _ (omega (arith, c .before .before .before .before .before .before .before .before .loop-test .taken)) is (rw is (c .before .before .before .before .before .before .look-from .ensures .good)) (λ short. rw is (looked (c .before .before .before .before .before .before .look-from .ensures) (c .before .before .before .before .lesser .result) (omega (arith, c .before .before .before .before .lesser .ensures, c .before .before .before .before .before .before .before .before .before .loop .inv .3)) (omega (arith, short, ap length is, c .before .before .before .before .before .before .before .before .before .loop .inv .3)))), laid-of (laid-is (c .before .before .before .before .before .before .before .before .before .before .before .before .before .before .pre .5)) (c .before .before .before .before .before .before .before .before .before .loop .inv .0 .stands .long) (c .before .before .before .before .before .before .before .before .before .before .before .before .before .before .pre .5 .wide))
 
 same-length : tie.Need-same-length Inv-loop μ-loop
 same-length c = c .before .before .before .before .before .before .before .read .kept .1 .0 ∙ c .before .before .before .before .before .before .before .before .before .before .before .before .before .before .before .before .before .loop .inv .1
 
 same-length-2 : tie.Need-same-length-2 Inv-loop μ-loop
-same-length-2 c = c .before .before .before .before .before .before .before .read .kept .1 .1 .0 ∙ c .before .before .before .before .before .before .before .before .before .before .before .before .before .before .before .before .before .loop .inv .2
+same-length-2 c = c .before .before .before .before .before .before .before .read .kept .1 .1 .1 .0 ∙ c .before .before .before .before .before .before .before .before .before .before .before .before .before .before .before .before .before .loop .inv .2
 
 returns : tie.Need-returns Inv-loop μ-loop
 returns c =
@@ -81,7 +83,7 @@ loop-less c = omega (arith, c .before .before .before .before .before .before .b
 loop-again : tie.Need-loop-again Inv-loop μ-loop
 loop-again c =
     let is = ap (λ (k : ℕ). partOf (c .before .before .before .before .before .before .before .before .before .before .before .before .before .before .before .before .before .before .before .before .before .before .before .before .args .sheet .now) (c .before .before .before .before .before .before .before .before .before .before .before .before .before .before .before .before .before .before .before .loop .at) (k - c .before .before .before .before .before .before .before .before .before .before .before .before .before .before .before .before .before .before .before .loop .at)) (c .before .before .before .before .before .before .before .before .before .before .before .before .before .before .before .before .look-from .ensures .end) in
-    (reads-on (c .before .before .before .before .before .before .before .before .before .before .before .before .before .before .before .before .before .before .before .before .before .before .before .before .pre .0) (c .before .before .before .before .before .before .before .before .before .before .before .before .before .before .before .before .before .before .before .loop .inv .0) _ _ _ (omega (arith, c .before .before .before .before .before .before .before .before .before .before .before .before .before .before .before .before .before .before .loop-test .taken)) (c .before .before .before .before .before .before .before .before .before .before .before .before .before .before .before .before .look-from .ensures .end) is {k′ = c .before .before .before .before .before .before .before .before .before .read .result .kept} (c .before .before .before .before .before .before .before .before .before .read .ensures) (c .before .before .if1 .left) (c .start-from .ensures), c .before .before .before .before .before .before .before .before .before .read .kept .1 .0 ∙ c .before .before .before .before .before .before .before .before .before .before .before .before .before .before .before .before .before .before .before .loop .inv .1, c .before .before .before .before .before .before .before .before .before .read .kept .1 .1 .0 ∙ c .before .before .before .before .before .before .before .before .before .before .before .before .before .before .before .before .before .before .before .loop .inv .2, c .before .before .before .before .before .before .before .before .before .before .before .before .before .before .before .before .look-from .kept .1 .1 .0 ∙ c .before .before .before .before .before .before .before .before .before .before .before .before .before .before .before .before .before .before .before .loop .inv .3)
+    (reads-on (c .before .before .before .before .before .before .before .before .before .before .before .before .before .before .before .before .before .before .before .before .before .before .before .before .pre .0) (c .before .before .before .before .before .before .before .before .before .before .before .before .before .before .before .before .before .before .before .loop .inv .0) _ _ _ (omega (arith, c .before .before .before .before .before .before .before .before .before .before .before .before .before .before .before .before .before .before .loop-test .taken)) (c .before .before .before .before .before .before .before .before .before .before .before .before .before .before .before .before .look-from .ensures .end) is {k′ = c .before .before .before .before .before .before .before .before .before .read .result .kept} (c .before .before .before .before .before .before .before .before .before .read .ensures) (c .before .before .if1 .left) (c .start-from .ensures), c .before .before .before .before .before .before .before .before .before .read .kept .1 .0 ∙ c .before .before .before .before .before .before .before .before .before .before .before .before .before .before .before .before .before .before .before .loop .inv .1, c .before .before .before .before .before .before .before .before .before .read .kept .1 .1 .1 .0 ∙ c .before .before .before .before .before .before .before .before .before .before .before .before .before .before .before .before .before .before .before .loop .inv .2, c .before .before .before .before .before .before .before .before .before .before .before .before .before .before .before .before .look-from .kept .1 .1 .0 ∙ c .before .before .before .before .before .before .before .before .before .before .before .before .before .before .before .before .before .before .before .loop .inv .3)
 
 same-length-3 : tie.Need-same-length-3 Inv-loop μ-loop
 same-length-3 c = c .before .loop .inv .1

@@ -22,7 +22,7 @@ note-requires : tie.Need-note-requires
 note-requires c κs =
     let p = c .before .before .before .before .before .before .pre in
     let b = room-between (c .before .before .before .before .before .before .args .line .now) (c .before .before .before .before .before .before .args .ends .now) (p .2 .ended) 1 (omega (arith, p .3 .two)) (omega (arith, p .2 .count, p .3 .two)) in
-    (p .0, p .1, omega (arith, c .before .before .start .ensures, b .low, b .high, p .4), rw (c .field .ensures) (name-bounds _ (p .3 .named) .1))
+    (p .5, p .1, p .0, omega (arith, c .before .before .start .ensures, b .low, b .high, p .4), rw (c .field .ensures) (name-bounds _ (p .3 .named) .1))
 
 same-length : tie.Need-same-length
 same-length c = search needs

@@ -6,10 +6,10 @@ use Rattle.sheet.proofs.taking.read.Statement.{statement}
 use Rattle.sheet.proofs.taking.read.Tie as tie
 
 statement-in-requires : tie.Need-statement-in-requires
-statement-in-requires c κs = (c .before .before .before .before .before .before .before .before .pre .stands .tidy, c .before .before .before .before .before .before .before .before .pre .bytes, c .before .before .before .before .before .before .before .before .pre .looked)
+statement-in-requires c κs = (c .before .before .before .before .before .before .before .before .pre .0 .stands .tidy, c .before .before .before .before .before .before .before .before .pre .0 .bytes, c .before .before .before .before .before .before .before .before .pre .0 .looked)
 
 add-requires : tie.Need-add-requires
-add-requires c κs = (record { sheet = c .before .before .before .before .before .before .before .before .before .before .before .args .sheet .now; numbers = c .before .before .before .before .before .before .before .before .before .before .before .args .names .now; said = c .before .before .before .before .before .before .before .before .before .before .before .pre .said; stands = c .before .before .before .before .before .before .before .before .before .before .before .pre .stands }, plain-within (c .before .before .before .before .before .before .before .before .before .before .before .pre) _ (c .before .before .statement-in .ensures .holds (c .before .if1 .taken)))
+add-requires c κs = (record { sheet = c .before .before .before .before .before .before .before .before .before .before .before .args .sheet .now; numbers = c .before .before .before .before .before .before .before .before .before .before .before .args .names .now; said = c .before .before .before .before .before .before .before .before .before .before .before .pre .0 .said; stands = c .before .before .before .before .before .before .before .before .before .before .before .pre .0 .stands }, plain-within (c .before .before .before .before .before .before .before .before .before .before .before .pre .0) _ (c .before .before .statement-in .ensures .holds (c .before .if1 .taken)), c .before .before .before .before .before .before .before .before .before .before .before .pre .1)
 
 same-length : tie.Need-same-length
 same-length c = search needs
@@ -18,13 +18,13 @@ same-length-2 : tie.Need-same-length-2
 same-length-2 c = search needs
 
 returns : tie.Need-returns
-returns c = rw (c .before .before .add .ensures .0) (plain-came (c .before .before .before .before .before .before .before .before .before .before .before .before .before .before .pre) _ (c .before .before .before .before .before .statement-in .ensures .holds (c .before .before .before .before .if1 .taken)) (c .before .before .add .ensures .1))
+returns c = rw (c .before .before .add .ensures .0) (plain-came (c .before .before .before .before .before .before .before .before .before .before .before .before .before .before .pre .0) _ (c .before .before .before .before .before .statement-in .ensures .holds (c .before .before .before .before .if1 .taken)) (c .before .before .add .ensures .1))
 
 line-fault-requires : tie.Need-line-fault-requires
-line-fault-requires c κs = (c .before .before .before .before .before .before .before .before .before .before .before .pre .stands .tidy, c .before .before .before .before .before .before .before .before .before .before .before .pre .bytes, c .before .before .before .before .before .before .before .before .before .before .before .pre .looked)
+line-fault-requires c κs = (c .before .before .before .before .before .before .before .before .before .before .before .pre .0 .stands .tidy, c .before .before .before .before .before .before .before .before .before .before .before .pre .0 .bytes, c .before .before .before .before .before .before .before .before .before .before .before .pre .0 .looked)
 
 take-requires : tie.Need-take-requires
-take-requires c κs = comes-other (c .before .before .before .before .before .before .before .before .before .before .before .before .before .before .before .pre) (sym (c .before .before .before .line-fault .ensures) ∙ c .before .before .if2 .taken) (c .before .before .before .before .before .before .statement-in .ensures) (c .before .before .before .before .before .if1 .left)
+take-requires c κs = (comes-other (c .before .before .before .before .before .before .before .before .before .before .before .before .before .before .before .pre .0) (sym (c .before .before .before .line-fault .ensures) ∙ c .before .before .if2 .taken) (c .before .before .before .before .before .before .statement-in .ensures) (c .before .before .before .before .before .if1 .left), c .before .before .before .before .before .before .before .before .before .before .before .before .before .before .before .pre .1)
 
 same-length-3 : tie.Need-same-length-3
 same-length-3 c = search needs
@@ -33,7 +33,7 @@ same-length-4 : tie.Need-same-length-4
 same-length-4 c = search needs
 
 returns-2 : tie.Need-returns-2
-returns-2 c = record { why = c .before .before .before .before .before .before .before .before .line-fault .ensures; taken = λ e. c .before .before .before .before .take .ensures _ (comes-takes (c .before .before .before .before .before .before .before .before .before .before .before .before .before .before .before .before .before .before .before .before .pre) (sym (c .before .before .before .before .before .before .before .before .line-fault .ensures) ∙ c .before .before .before .before .before .before .before .if2 .taken)); left = λ q. absurd (q (c .before .before .before .before .before .before .before .if2 .taken)) }
+returns-2 c = record { why = c .before .before .before .before .before .before .before .before .line-fault .ensures; taken = λ e. c .before .before .before .before .take .ensures _ (comes-takes (c .before .before .before .before .before .before .before .before .before .before .before .before .before .before .before .before .before .before .before .before .pre .0) (sym (c .before .before .before .before .before .before .before .before .line-fault .ensures) ∙ c .before .before .before .before .before .before .before .if2 .taken)); left = λ q. absurd (q (c .before .before .before .before .before .before .before .if2 .taken)) }
 
 same-length-5 : tie.Need-same-length-5
 same-length-5 c = search needs

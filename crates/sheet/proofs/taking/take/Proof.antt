@@ -8,7 +8,7 @@ returns : tie.Need-returns
 returns c = λ sheet tk k x st. rw (said-empty k x _ (c .if1 .taken)) st
 
 take-form-requires : tie.Need-take-form-requires
-take-form-requires c κs = (c .before .before .before .before .before .before .before .pre, some-line (c .before .before .before .before .before .before .before .args .line .now) (c .before .before .if1 .left))
+take-form-requires c κs = (c .before .before .before .before .before .before .before .pre .0, some-line (c .before .before .before .before .before .before .before .args .line .now) (c .before .before .if1 .left), c .before .before .before .before .before .before .before .pre .1)
 
 same-length : tie.Need-same-length
 same-length c = search needs

@@ -1,10 +1,9 @@
 -- `sheet::taking::take_form` meets its contract. Assumes nothing.
-use Rattle.sheet.specs.laws.Taken.{concept-declared, concept-room, concept-taken, item-declared, item-room, item-taken, line-near, role-declared, role-room, role-taken, rule-room, rule-taken, bare-taken, unknown-taken}
-use mathlib.Core.Path.{_≡_, sym, _∙_}
-use Prim.Native.Nat.{_+_}
+use Rattle.sheet.specs.laws.Taken.{concept-declared, concept-room, concept-taken, item-declared, item-most, item-place, item-room, item-taken, line-near, role-declared, role-room, role-taken, rule-room, rule-taken, bare-taken, unknown-taken}
+use mathlib.Core.Path.{sym, _∙_}
 use native.Mathlib.Omega.{arith}
 use Rattle.line.specs.Fault.{begun}
-use Rattle.sheet.specs.laws.Stands.{stopped-zero}
+use Rattle.sheet.specs.laws.Stands.{stands-fits, stopped-zero}
 use borrow.Author.Needs.{needs}
 use Rattle.sheet.proofs.taking.take_form.Statement.{statement}
 use Rattle.sheet.proofs.taking.take_form.Tie as tie
@@ -21,7 +20,7 @@ declare-requires c κs =
     let s = c .before .before .before .before .before .before .before .before .before .before .pre .1 in
     let f = c .before .before .before .before .before .form .ensures in
     let e = c .before .enum-told .given .1 in
-    (q .stands .tidy .long, omega (arith, concept-room q s _ f e), c .before .before .before .before .before .before .before .before .before .before .pre .0 .looked, concept-declared q s _ f e, line-near q)
+    (omega (arith, concept-room q s _ f e, q .stands .tidy .long), omega (arith, concept-room q s _ f e), c .before .before .before .before .before .before .before .before .before .before .pre .0 .looked, concept-declared q s _ f e, line-near q, omega arith)
 
 add-counts : tie.Need-add-counts
 add-counts c = omega (arith, concept-room (c .before .before .before .before .before .before .before .before .before .before .before .before .before .before .pre .0 .takes) (c .before .before .before .before .before .before .before .before .before .before .before .before .before .before .pre .1) _ (c .before .before .before .before .before .before .before .before .before .form .ensures) (c .before .before .before .before .before .enum-told .given .1))
@@ -35,7 +34,7 @@ declare-requires-2 c κs =
     let s = c .before .before .before .before .before .before .before .before .before .before .pre .1 in
     let f = c .before .before .before .before .before .form .ensures in
     let e = c .before .enum-told2 .given .1 in
-    (q .stands .tidy .long, omega (arith, role-room q s _ f e), c .before .before .before .before .before .before .before .before .before .before .pre .0 .looked, role-declared q s _ f e, line-near q)
+    (omega (arith, role-room q s _ f e, q .stands .tidy .long), omega (arith, role-room q s _ f e), c .before .before .before .before .before .before .before .before .before .before .pre .0 .looked, role-declared q s _ f e, line-near q, omega arith)
 
 add-counts-2 : tie.Need-add-counts-2
 add-counts-2 c = omega (arith, role-room (c .before .before .before .before .before .before .before .before .before .before .before .before .before .before .pre .0 .takes) (c .before .before .before .before .before .before .before .before .before .before .before .before .before .before .pre .1) _ (c .before .before .before .before .before .before .before .before .before .form .ensures) (c .before .before .before .before .before .enum-told2 .given .1))
@@ -49,10 +48,10 @@ declare-requires-3 c κs =
     let s = c .before .before .before .before .before .before .before .before .before .before .pre .1 in
     let f = c .before .before .before .before .before .form .ensures in
     let e = c .before .enum-told3 .given .1 in
-    (q .stands .tidy .long, omega (arith, item-room q s _ f e), c .before .before .before .before .before .before .before .before .before .before .pre .0 .looked, item-declared q s _ f e, line-near q)
+    (omega (arith, item-room q s _ f e, item-place q s _ f e), omega (arith, item-room q s _ f e, item-most q s _ f e (c .before .before .before .before .before .before .before .before .before .before .pre .2 .wide)), c .before .before .before .before .before .before .before .before .before .before .pre .0 .looked, item-declared q s _ f e, line-near q, omega arith)
 
 add-counts-3 : tie.Need-add-counts-3
-add-counts-3 c = omega (arith, item-room (c .before .before .before .before .before .before .before .before .before .before .before .before .before .before .pre .0 .takes) (c .before .before .before .before .before .before .before .before .before .before .before .before .before .before .pre .1) _ (c .before .before .before .before .before .before .before .before .before .form .ensures) (c .before .before .before .before .before .enum-told3 .given .1))
+add-counts-3 c = omega (arith, item-room (c .before .before .before .before .before .before .before .before .before .before .before .before .before .before .pre .0 .takes) (c .before .before .before .before .before .before .before .before .before .before .before .before .before .before .pre .1) _ (c .before .before .before .before .before .before .before .before .before .form .ensures) (c .before .before .before .before .before .enum-told3 .given .1), item-most (c .before .before .before .before .before .before .before .before .before .before .before .before .before .before .pre .0 .takes) (c .before .before .before .before .before .before .before .before .before .before .before .before .before .before .pre .1) _ (c .before .before .before .before .before .before .before .before .before .form .ensures) (c .before .before .before .before .before .enum-told3 .given .1) (c .before .before .before .before .before .before .before .before .before .before .before .before .before .before .pre .2 .wide))
 
 enum-told-4 : tie.Need-enum-told-4
 enum-told-4 c = search needs
@@ -62,7 +61,7 @@ enum-told-5 c = search needs
 
 take-rule-requires : tie.Need-take-rule-requires
 take-rule-requires c κs =
-    (stopped-zero (begun (c .before .before .before .before .before .before .before .before .before .before .args .k .marks)) _ _ (c .before .before .before .before .before .before .before .before .before .before .pre .0 .takes .stands .store), c .before .before .before .before .before .before .before .before .before .before .pre .0 .takes .stands .tidy .room, rule-room (c .before .before .before .before .before .before .before .before .before .before .pre .0 .takes) (c .before .before .before .before .before .before .before .before .before .before .pre .1) _ (c .before .before .before .before .before .form .ensures) _ (c .before .enum-told5 .given .1))
+    (stopped-zero _ (begun (c .before .before .before .before .before .before .before .before .before .before .args .k .marks)) _ _ (c .before .before .before .before .before .before .before .before .before .before .pre .0 .takes .stands .store), stands-fits (c .before .before .before .before .before .before .before .before .before .before .pre .0 .takes .stands), rule-room (c .before .before .before .before .before .before .before .before .before .before .pre .0 .takes) (c .before .before .before .before .before .before .before .before .before .before .pre .1) _ (c .before .before .before .before .before .form .ensures) _ (c .before .enum-told5 .given .1), c .before .before .before .before .before .before .before .before .before .before .pre .2)
 
 enum-told-6 : tie.Need-enum-told-6
 enum-told-6 c = search needs
@@ -74,10 +73,7 @@ same-length : tie.Need-same-length
 same-length c = search needs
 
 returns : tie.Need-returns
-returns c =
-    let n = c .before .before .before .before .before .before .before .before .before .before .before .before .before .before .args .k .counts .concepts in
-    let z : 0 + n ≡ n = omega arith in
-    λ sheet tk. concept-taken tk (c .before .before .before .before .before .before .before .before .before .before .before .before .before .before .pre .1) _ (c .before .before .before .before .before .before .before .before .before .form .ensures) (c .before .before .before .before .before .enum-told .given .1) _ _ (c .before .before .before .before .before .before .before .before .before .before .before .before .before .before .pre .0 .looked) (rw z at (c .before .before .before .declare .ensures))
+returns c = λ sheet tk. concept-taken tk (c .before .before .before .before .before .before .before .before .before .before .before .before .before .before .pre .1) _ (c .before .before .before .before .before .before .before .before .before .form .ensures) (c .before .before .before .before .before .enum-told .given .1) _ _ (c .before .before .before .before .before .before .before .before .before .before .before .before .before .before .pre .0 .looked) (c .before .before .before .declare .ensures)
 
 same-length-2 : tie.Need-same-length-2
 same-length-2 c = search needs
@@ -89,7 +85,7 @@ same-length-3 : tie.Need-same-length-3
 same-length-3 c = search needs
 
 returns-3 : tie.Need-returns-3
-returns-3 c = λ sheet tk. item-taken tk (c .before .before .before .before .before .before .before .before .before .before .before .before .before .before .pre .1) _ (c .before .before .before .before .before .before .before .before .before .form .ensures) (c .before .before .before .before .before .enum-told3 .given .1) _ _ (c .before .before .before .before .before .before .before .before .before .before .before .before .before .before .pre .0 .looked) (c .before .before .before .declare3 .ensures)
+returns-3 c = λ sheet tk. item-taken tk (c .before .before .before .before .before .before .before .before .before .before .before .before .before .before .pre .1) _ (c .before .before .before .before .before .before .before .before .before .form .ensures) (c .before .before .before .before .before .enum-told3 .given .1) (c .before .before .before .before .before .before .before .before .before .before .before .before .before .before .pre .2 .wide) _ _ (c .before .before .before .before .before .before .before .before .before .before .before .before .before .before .pre .0 .looked) (c .before .before .before .declare3 .ensures)
 
 returns-4 : tie.Need-returns-4
 returns-4 c = absurd (c .before .before .before .before .before .before .before .before .before .pre .0 .other _ (sym (c .before .before .before .before .form .ensures) ∙ c .enum-told4 .given .1))

@@ -29,19 +29,19 @@ first-requires : tie.Need-first-requires Inv-loop μ-loop
 first-requires c κs = (c .before .before .pre .0, c .before .before .pre .1)
 
 loop-holds : tie.Need-loop-holds Inv-loop μ-loop
-loop-holds c = ((λ x o m. turn-start (c .first .ensures) o m (numbers-none (c .before .before .before .args .codes .now))), c .first .ensures .inside, omega arith, c .before .before .before .pre .2)
+loop-holds c = ((λ W x o m. turn-start W (c .first .ensures) o m (numbers-none (c .before .before .before .args .codes .now))), c .first .ensures .inside, omega arith, c .before .before .before .pre .2)
 
 code-requires : tie.Need-code-requires Inv-loop μ-loop
 code-requires c κs =
     let a = c .before .before .before .before .before .pre .1 in
-    let w = (c .before .loop .inv .0) (a .said) (a .ends) (a .names) in
-    within-small (c .before .loop .q .statement) (within-table (c .before .before .before .before .before .args .sheet .now) (a .said .names) (cellOf (c .before .loop .q .statement)) (c .before .before .before .before .before .pre .0) (a .names) (turn-within w (c .loop-test .taken))) (c .before .before .before .before .before .pre .0 .room)
+    let w = (c .before .loop .inv .0) (a .width) (a .said) (a .ends) (a .names) in
+    within-small (c .before .loop .q .statement) (omega arith) (within-table (c .before .before .before .before .before .args .sheet .now) (a .said .names) (cellOf (c .before .loop .q .statement)) (c .before .before .before .before .before .pre .0) (a .names) (turn-within w (c .loop-test .taken))) (c .before .before .before .before .before .pre .0 .room)
 
 mul-codes : tie.Need-mul-codes Inv-loop μ-loop
 mul-codes c = omega (arith, c .before .before .loop .inv .2)
 
 element-write-codes : tie.Need-element-write-codes Inv-loop μ-loop
-element-write-codes c = omega (arith, turn-few ((c .before .before .loop .inv .0) _ (c .before .before .before .before .before .before .pre .1 .ends) (c .before .before .before .before .before .before .pre .1 .names)) (c .before .loop-test .taken) (c .before .before .before .before .before .before .pre .1 .ends), c .before .before .loop .inv .3)
+element-write-codes c = omega (arith, turn-few _ ((c .before .before .loop .inv .0) _ _ (c .before .before .before .before .before .before .pre .1 .ends) (c .before .before .before .before .before .before .pre .1 .names)) (c .before .loop-test .taken) (c .before .before .before .before .before .before .pre .1 .ends), c .before .before .loop .inv .3)
 
 add-n : tie.Need-add-n Inv-loop μ-loop
 add-n c = omega (arith, c .before .before .loop .inv .2)
@@ -49,10 +49,10 @@ add-n c = omega (arith, c .before .before .loop .inv .2)
 add-next : tie.Need-add-next Inv-loop μ-loop
 add-next c =
     let a = c .before .before .before .before .before .before .before .pre .1 in
-    omega (arith, turn-paused ((c .before .before .before .loop .inv .0) (a .said) (a .ends) (a .names)) (c .before .before .loop-test .taken) .passing .near, c .before .before .before .loop .inv .1, accepted-start _ _ (a .ends) .0)
+    omega (arith, turn-paused ((c .before .before .before .loop .inv .0) (a .width) (a .said) (a .ends) (a .names)) (c .before .before .loop-test .taken) .passing .near, c .before .before .before .loop .inv .1, accepted-start _ _ _ (a .ends) .1)
 
 next-requires : tie.Need-next-requires Inv-loop μ-loop
-next-requires c κs = (c .before .before .before .before .before .before .before .pre .0, turn-paused ((c .before .before .before .loop .inv .0) (c .before .before .before .before .before .before .before .pre .1 .said) (c .before .before .before .before .before .before .before .pre .1 .ends) (c .before .before .before .before .before .before .before .pre .1 .names)) (c .before .before .loop-test .taken))
+next-requires c κs = (c .before .before .before .before .before .before .before .pre .0, turn-paused ((c .before .before .before .loop .inv .0) (c .before .before .before .before .before .before .before .pre .1 .width) (c .before .before .before .before .before .before .before .pre .1 .said) (c .before .before .before .before .before .before .before .pre .1 .ends) (c .before .before .before .before .before .before .before .pre .1 .names)) (c .before .before .loop-test .taken))
 
 loop-less : tie.Need-loop-less Inv-loop μ-loop
 loop-less c = omega (arith, c .next .ensures .later, c .next .ensures .inside)
@@ -60,10 +60,10 @@ loop-less c = omega (arith, c .next .ensures .later, c .next .ensures .inside)
 loop-again : tie.Need-loop-again Inv-loop μ-loop
 loop-again c =
     let a = c .before .before .before .before .before .before .before .before .pre .1 in
-    let few = turn-few ((c .before .before .before .before .loop .inv .0) (a .said) (a .ends) (a .names)) (c .before .before .before .loop-test .taken) (a .ends) in
+    let few = turn-few _ ((c .before .before .before .before .loop .inv .0) (a .width) (a .said) (a .ends) (a .names)) (c .before .before .before .loop-test .taken) (a .ends) in
     let room : c .before .before .before .before .loop .n < length (c .before .before .before .before .loop .codes) = omega (arith, few, c .before .before .before .before .loop .inv .3) in (
-      (λ x o m.
-          let w = (c .before .before .before .before .loop .inv .0) x o m in
+      (λ W x o m.
+          let w = (c .before .before .before .before .loop .inv .0) W x o m in
           turn-next w (c .before .before .before .loop-test .taken) (c .next .ensures)
           (numbers-more (c .before .before .before .before .loop .codes) (c .before .before .before .before .loop .n) (c .before .before .code .result) (foundStatement (c .before .before .before .before .loop .q)) room (c .before .before .code .ensures)
           (within-table (c .before .before .before .before .before .before .before .before .args .sheet .now) (x .names) (cellOf (c .before .before .before .before .loop .q .statement)) (c .before .before .before .before .before .before .before .before .pre .0) m (turn-within w (c .before .before .before .loop-test .taken))) (w .holds))),
@@ -73,7 +73,7 @@ loop-again c =
     )
 
 returns : tie.Need-returns Inv-loop μ-loop
-returns c = record { numbers = λ x o m. turn-end ((c .before .loop .inv .0) x o m) (c .loop-test .left); few = c .before .loop .inv .2; long = c .before .loop .inv .3 }
+returns c = record { numbers = λ W x o m. turn-end ((c .before .loop .inv .0) W x o m) (c .loop-test .left); few = c .before .loop .inv .2; long = c .before .loop .inv .3 }
 
 pub gather-spec : {M : Type 1} → statement M
 gather-spec =

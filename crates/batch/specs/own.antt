@@ -1,0 +1,3 @@
+-- What the parts of the code do and ask, which no promise mentions.
+pub mod Small
+pub mod Turn
