@@ -382,6 +382,25 @@ def print_growth(checkers, seed):
                     ["Sheet", "Bytes", *(checker.name for checker in checkers), *(["ratio"] if len(checkers) == 2 else [])], rows)
 
 
+# --- The larger store ---
+
+
+# Prints the sheets of edition 2, which only ours judges: their bytes, their last line and the time of one call with a lent
+# store of the larger size.
+def print_large(name, seed):
+    ours = Checker(f"{name}, larger store", BUILD / "host-large", None)
+    rows = []
+    for sheet, data in sheets.large_sheets(seed).items():
+        path = BUILD / "sheets" / f"{sheet}.sheet"
+        text = ours.text(path)
+        if text is not None and not text.splitlines()[-1].startswith("total"):
+            raise Disagreement(f"{sheet}: {text!r}")
+        items = sum(line.startswith(b"item\t") for line in data.splitlines())
+        rows.append([sheet, f"{len(data):,}", str(items), "-" if text is None else text.splitlines()[-1].split("\t")[1],
+                     time_shown(ours.seconds(path))])
+    print_table("Sheets of edition 2, through saltreeve_check_in", ["Sheet", "Bytes", "Items", "Findings", ours.name], rows)
+
+
 # --- The run ---
 
 
@@ -416,6 +435,7 @@ def main():
         counts = instructions_of(checkers, paths)
         times = print_calls(checkers, paths, counts)
         print_nothing(checkers[0])
+        print_large(checkers[0].name, chosen.seed)
         engines = [] if chosen.no_engines else engines_there()
         runs = engine_runs(engines, drawn, chosen.limit)
         engines_agree(runs, texts)

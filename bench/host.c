@@ -5,7 +5,9 @@
  *   host time FILE SECONDS     judges it over and over for about so long, in eleven rounds; prints the
  *                              nanoseconds of processor time that one call took in the best round
  *
- * It is linked once with Saltreeve's library and once with the plain checker, which has the same face.
+ * It is linked once with Saltreeve's library and once with the plain checker, which has the same face. With
+ * LARGER defined it calls saltreeve_check_in with a lent store of the larger size instead, which the plain
+ * checker does not have: for sheets of edition 2.
  */
 #define _POSIX_C_SOURCE 199309L
 
@@ -16,8 +18,10 @@
 #include <time.h>
 
 int64_t saltreeve_check(const uint8_t *sheet, size_t sheet_length, uint8_t *room, size_t room_length);
+int64_t saltreeve_check_in(const uint8_t *sheet, size_t sheet_length, uint64_t *words, size_t length,
+                           uint8_t *room, size_t room_length);
 
-enum { ROUNDS = 11, MOST_SHEET = 40000, MOST_TEXT = 12814 };
+enum { ROUNDS = 11, MOST_SHEET = 40000, MOST_TEXT = 12815 };
 
 static uint8_t sheet[MOST_SHEET], room[MOST_TEXT];
 static size_t sheet_length;
@@ -42,7 +46,12 @@ static void read_sheet(const char *path)
 /* One call; gives the length of the text. */
 static size_t judge(void)
 {
+#ifdef LARGER
+    static uint64_t words[70192];
+    int64_t length = saltreeve_check_in(sheet, sheet_length, words, sizeof words / sizeof *words, room, sizeof room);
+#else
     int64_t length = saltreeve_check(sheet, sheet_length, room, sizeof room);
+#endif
     if (length < 0)
         fail("the text does not fit into its room");
     return (size_t)length;

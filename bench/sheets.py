@@ -14,6 +14,7 @@ DEFAULT_SEED = 5
 NODES = 32
 RULES = 64
 ITEMS, CONCEPTS, ROLES = 128, 32, 16
+LARGE_ITEMS = 512  # of edition 2
 HEADER = ["sheet", "1"]
 ONE_CHARACTER = "ABCDEFGHIJKLMNOPQRSTUVWXYZabcdefghijklmnopqrstuvwxyz0123456789._/-"
 
@@ -129,6 +130,17 @@ def catalogue(rng, items):
     return [HEADER, *declared("concept", FAMILIES), *declared("role", LINKS),
             *(line for kind in codes for line in declared("item", codes[kind])),
             *catalogue_statements(rng, codes), *(["rule", *rule.split()] for rule in rules)]
+
+
+# A catalogue of 512 codes, of edition 2, with as many of its statements as 32 KB have room for.
+def large_catalogue(rng):
+    codes = catalogue_codes(LARGE_ITEMS)
+    rules = [["rule", *rule.split()] for rule in (*CATALOGUE_RULES, *named_rules(rng, codes))]
+    names = [*declared("concept", FAMILIES), *declared("role", LINKS),
+             *(line for kind in codes for line in declared("item", codes[kind]))]
+    statements = catalogue_statements(rng, codes)
+    rng.shuffle(statements)
+    return as_many_as_fit([["sheet", "2"], *names], statements, rules)
 
 
 # --- Sheets of 32 KB ---
@@ -273,6 +285,9 @@ SHEETS = {
     "worst-unders": most_unders,
 }
 
+# Sheets of edition 2, which only the larger store takes.
+LARGE_SHEETS = {"catalogue-512": large_catalogue}
+
 GROWTH = {
     "items": (with_items, (16, 32, 64, 128)),
     "links": (with_links, (375, 750, 1500, 3000)),
@@ -293,6 +308,11 @@ def all_sheets(seed):
     return {name: drawn_sheet(name, make, seed) for name, make in SHEETS.items()}
 
 
+# The sheets of edition 2 by name.
+def large_sheets(seed):
+    return {name: drawn_sheet(name, make, seed) for name, make in LARGE_SHEETS.items()}
+
+
 # The series: for each, its counts and their sheets.
 def growth_sheets(seed):
     return {name: {count: drawn_sheet(f"{name}-{count}", lambda rng: make(rng, count), seed) for count in counts}
@@ -306,7 +326,7 @@ def main():
     parser.add_argument("--seed", type=int, default=DEFAULT_SEED)
     chosen = parser.parse_args()
     chosen.folder.mkdir(parents=True, exist_ok=True)
-    for name, sheet in all_sheets(chosen.seed).items():
+    for name, sheet in {**all_sheets(chosen.seed), **large_sheets(chosen.seed)}.items():
         (chosen.folder / f"{name}.sheet").write_bytes(sheet)
     for name, series in growth_sheets(chosen.seed).items():
         for count, sheet in series.items():

@@ -4,34 +4,47 @@
  *
  * saltreeve_check and the four functions after it, which stand last below, take
  * a sheet's bytes; docs/HOST.md has examples. The others work on a store: the
- * caller lends 4,528 words of 64 bits and says with each call how many
- * items, concepts and roles are declared (saltreeve_compile has no store, only
- * these counts). Items, concepts and roles are numbered apart, each from 0.
+ * caller lends words of 64 bits and says with each call how many items, concepts
+ * and roles are declared (saltreeve_compile has no store, only these counts).
+ * Items, concepts and roles are numbered apart, each from 0.
  *
- *   cell                          word                        bit (0 is the lowest)
- *   a same as b                   2a + b/64                   b mod 64
- *   concept A under B             256 + A                     B
- *   role R under S                288 + R                     S
- *   role R under inverse of S     288 + R                     16 + S
- *   a in A                        304 + a                     A
- *   R links a to b                432 + 2(128R + a) + b/64    b mod 64
+ * A store has one of two sizes. The smaller has 4,528 words and takes at most 128
+ * items, the larger 70,192 words and at most 512; both take at most 32 concepts and
+ * 16 roles. The number of words lent says which it is. A larger store may have few
+ * items too. Every call that is lent a store takes both sizes: saltreeve_fresh, the
+ * five that add a statement, saltreeve_add_all, saltreeve_convert,
+ * saltreeve_findings, saltreeve_check_in, saltreeve_explain and
+ * saltreeve_explain_finding. They have the same cells in other words:
  *
- * Divisions drop the rest. All other bits are 0.
+ *   cell                         bit         word of the smaller         word of the larger
+ *   a same as b                  b mod 64    2a + b/64                   8a + b/64
+ *   concept A under B            B           256 + A                     4096 + A
+ *   role R under S               S           288 + R                     4128 + R
+ *   role R under inverse of S    16 + S      288 + R                     4128 + R
+ *   a in A                       A           304 + a                     4144 + a
+ *   R links a to b               b mod 64    432 + 2(128R + a) + b/64    4656 + 8(512R + a) + b/64
+ *
+ * Bit 0 is the lowest. Divisions drop the rest. All other bits are 0.
  *
  * Those functions hand back a count, of cells where nothing else is said, or
  * minus the number of refusal, of which some calls have more:
  *
- *   -1  length is not 4,528, or a declared count is over its limit
- *   -2  the store is not closed: a cell that follows from its cells and the
- *       declared counts is missing, or a bit is set that is no cell within
- *       the declared counts
- *   -3  a rule is malformed
- *   -4  an item, concept or role number is not below its declared count
+ *    -1  length is neither 4,528 nor 70,192; or a declared count is over its limit:
+ *        more than 128 items with 4,528 words, more than 512 items with 70,192, more
+ *        than 32 concepts, more than 16 roles. In a conversion also: the target does
+ *        not have the other of the two lengths
+ *    -2  the store is not closed: a cell that follows from its cells and the
+ *        declared counts is missing, or a bit is set that is no cell within
+ *        the declared counts
+ *    -3  a rule is malformed
+ *    -4  an item, concept or role number is not below its declared count
+ *   -26  the store cannot go back to the smaller size: an item number is 128 or more
  *
  * Where more than one applies, the lowest number is given. A refusal changes
  * no word. `words` must point to `length` words that the caller may read and
- * write (saltreeve_findings only reads them); NULL is not allowed. Nothing is kept between calls of any function:
- * all there is to know is in what is lent and the numbers given.
+ * write (saltreeve_findings only reads them); NULL is not allowed. Nothing is kept
+ * between calls of any function: all there is to know is in what is lent and the
+ * numbers given.
  */
 #ifndef SALTREEVE_H
 #define SALTREEVE_H
@@ -39,11 +52,15 @@
 #include <stddef.h>
 #include <stdint.h>
 
-/* The words of a store. */
+/* The words of a store, of the smaller and of the larger size. */
 #define SALTREEVE_WORDS 4528
+#define SALTREEVE_LARGE_WORDS 70192
 
-/* The most items, concepts and roles that can be declared. */
+/* The most items that can be declared with a store of either size. */
 #define SALTREEVE_ITEMS 128
+#define SALTREEVE_LARGE_ITEMS 512
+
+/* The most concepts and roles that can be declared, whatever the size. */
 #define SALTREEVE_CONCEPTS 32
 #define SALTREEVE_ROLES 16
 
@@ -122,7 +139,7 @@
 #define SALTREEVE_QUERY_OPEN 4     /* a not opens */
 #define SALTREEVE_QUERY_CLOSE 5    /* it closes */
 
-/* The term of item 0 in a query; that of item a is larger by a. */
+/* The term of item 0 in a query; that of item a is larger by a, 4,607 at most. */
 #define SALTREEVE_QUERY_ITEM 4096
 
 /*
@@ -131,13 +148,17 @@
  */
 #define SALTREEVE_SHEET 32768
 
-/* Room in bytes that suffices for the text of any sheet. Some sheets need all of it. */
+/*
+ * Room in bytes that suffices for the text of any sheet, with the smaller store and
+ * with the larger. Some sheets need all of it.
+ */
 #define SALTREEVE_TEXT 12814
+#define SALTREEVE_LARGE_TEXT 12815
 
 /* Room in bytes that suffices for the text of saltreeve_why, whatever is asked. */
 #define SALTREEVE_WHY 11000
 
-/* The kinds of cells, for saltreeve_explain. */
+/* The kinds of cells, for saltreeve_explain, and of statements, for saltreeve_add_all. */
 #define SALTREEVE_KIND_SAME 0               /* item a same as item b */
 #define SALTREEVE_KIND_UNDER 1              /* concept a under concept b */
 #define SALTREEVE_KIND_ROLE_UNDER 2         /* role a under role b */
@@ -209,6 +230,42 @@ int64_t saltreeve_add_link(uint64_t *words, size_t length,
                            uint64_t items, uint64_t concepts, uint64_t roles,
                            uint64_t role, uint64_t a, uint64_t b);
 
+/* The words of one statement in the list that saltreeve_add_all takes. */
+#define SALTREEVE_STATEMENT_WORDS 4
+
+/*
+ * Adds a list of statements one after the other, and asks only once whether the
+ * store is closed. A statement is four words: its kind (SALTREEVE_KIND_..), then the
+ * numbers a, b and c that the kind speaks of; c is read for a link alone. Takes as
+ * many statements as `statements` has whole ones and `answers` has places for, the
+ * first ones, and writes for each of them to `answers` exactly what the call for that
+ * one statement would return at that point: the number of cells newly true, or -1,
+ * -2 or -4. A kind that is none of the six is refused with -4. A statement that is
+ * refused changes no word, and the next one is taken all the same. Words of
+ * `statements` past the last whole statement are not read; answers past the last
+ * statement taken are untouched, and no statement is added that has no place for its
+ * answer. Returns the number of statements taken. The words, the statements and the
+ * answers must not overlap; NULL is not allowed, also where a length is 0.
+ */
+int64_t saltreeve_add_all(uint64_t *words, size_t length,
+                          uint64_t items, uint64_t concepts, uint64_t roles,
+                          const uint64_t *statements, size_t statement_words,
+                          int64_t *answers, size_t answers_length);
+
+/*
+ * Moves a store to the other size: every cell of `source` to its place in `target`,
+ * where every other bit becomes 0, whatever the target held before. `items`,
+ * `concepts` and `roles` are those of the source. Returns the number of cells moved.
+ * Refuses with -1 unless one of the lengths is 4,528 and the other 70,192 and the
+ * counts are within the limits of the source's size; with -2 if the source is not
+ * closed; with -26 if the source is the larger and more than 128 items are declared.
+ * A refusal changes no word of the target. The source is only read. There and back
+ * gives the same words. The two must not overlap.
+ */
+int64_t saltreeve_convert(const uint64_t *source, size_t source_length,
+                          uint64_t items, uint64_t concepts, uint64_t roles,
+                          uint64_t *target, size_t target_length);
+
 /*
  * Finds what breaks a rule. Returns the number of all findings and writes them to
  * `out`, two words each: an item and a second item, or SALTREEVE_NO_ITEM where the
@@ -238,7 +295,7 @@ int64_t saltreeve_findings(const uint64_t *words, size_t length,
  * a yes or no: yes exactly if the rule has its one finding.
  * The words past the query are untouched, and so is the room by a refusal:
  *
- *   -1  a declared count is over its limit
+ *   -1  a declared count is over its limit, that of items being 512
  *   -3  the rule is malformed
  *   -4  an item, concept or role number of the rule is not below its declared count
  *   -5  the query is longer than 512 items
@@ -254,6 +311,8 @@ int64_t saltreeve_compile(uint64_t items, uint64_t concepts, uint64_t roles,
 /*
  * Checks a sheet: writes to `room` the text that the program `check` prints for
  * it, which is its findings and their total, or the one line of a refused sheet.
+ * The sheet is read as with the smaller store, so one of edition 2 is refused at
+ * line 1 by 11; saltreeve_check_in takes both editions.
  * Returns the number of bytes written; the room past them is untouched. Returns
  * -8 exactly if the text is longer than the room, which is then untouched as a
  * whole. A sheet may have any bytes and any length. Both pointers must point to
@@ -268,9 +327,10 @@ int64_t saltreeve_check(const uint8_t *sheet, size_t sheet_length,
  * saltreeve_check. The store is left as saltreeve_explain leaves it: what follows
  * from the statements of an accepted sheet; of a refused one, what the lines before
  * the refused one gave, or zeros if none of them was a statement or a rule; as it was
- * if the sheet has over 32,768 bytes. What was in it before does not matter. If
- * `length` is not 4,528 the sheet is not read, the words stay as they are, and the
- * text is the line
+ * if the sheet has over 32,768 bytes. What was in it before does not matter. With
+ * 70,192 words the sheet may be of either edition; with 4,528 words one of edition 2
+ * is refused at line 1 by 11, and the store is zeros. If `length` is neither, the
+ * sheet is not read, the words stay as they are, and the text is the line
  *
  *   refused 0 1
  *
@@ -306,6 +366,7 @@ int64_t saltreeve_check_in(const uint8_t *sheet, size_t sheet_length,
  * untouched as a whole. Sheet and question may have any bytes and any length.
  * The pointers must point to as many bytes as their lengths say; NULL is not
  * allowed, also where a length is 0. The room must not overlap the other two.
+ * The store is the smaller one: a sheet of edition 2 is refused at line 1 by 11.
  */
 int64_t saltreeve_why(const uint8_t *sheet, size_t sheet_length,
                       const uint8_t *question, size_t question_length,
@@ -316,12 +377,13 @@ int64_t saltreeve_why(const uint8_t *sheet, size_t sheet_length,
  * numbers of a reason for the cell of the kind `kind` (SALTREEVE_KIND_..) with
  * the numbers a, b and, for a link alone, c; in the other kinds c is not read.
  * Items, concepts and roles have the numbers of their places among the
- * declarations of their kind, from 0. Returns the number of lines of the reason,
+ * declarations of their kind, from 0. The sheet may be of either edition with
+ * 70,192 words; with 4,528 one of edition 2 is refused at line 1 by 11. Returns the number of lines of the reason,
  * 0 for a cell that is true without any statement. The first of them, rising,
  * are in the list, as far as it reaches; the rest of the list is untouched.
  * Otherwise returns a refusal, and the list is untouched:
  *
- *   -1             `length` is not 4,528
+ *   -1             `length` is neither 4,528 nor 70,192
  *   -9             the sheet has over 32,768 bytes
  *   -(100L + N)    line L of the sheet is refused by number N, which is 10 to
  *                  21: -316 is line 3, number 16

@@ -13,7 +13,7 @@
 enum {
     GUARD_BYTES = 512,       /* kept before and after the entries lent */
     GUARD_BYTE = 0xA5,
-    MOST_ENTRIES = 131072,   /* the longest list that can be lent */
+    MOST_ENTRIES = 1 << 20,  /* the longest list that can be lent */
     PLACE_BYTES = 256,
     TEXT_TOO_LONG = -8
 };
@@ -78,7 +78,8 @@ static void lend(struct lent *lent, size_t width, size_t length, uint64_t value)
     lent->length = length;
     lent->width = width;
     memset(lent->block, GUARD_BYTE, length * width + 2 * GUARD_BYTES);
-    for (size_t i = 0; i < length; i++)
+    memset(lent->due, 0, length * width);
+    for (size_t i = 0; value != 0 && i < length; i++)
         put_entry(lent->due, width, i, value);
     fill(lent);
 }
@@ -123,8 +124,10 @@ static inline uint64_t garbage(uint64_t number, uint64_t at)
 static inline void lend_garbage(struct lent *store, uint64_t number, size_t length)
 {
     lend(store, sizeof(uint64_t), length, 0);
-    for (size_t i = 0; i < length; i++)
-        set_due(store, i, garbage(number, i));
+    for (size_t i = 0; i < length; i++) {
+        uint64_t word = garbage(number, i);
+        memcpy(store->due + i * sizeof word, &word, sizeof word);
+    }
     fill(store);
 }
 
@@ -202,7 +205,7 @@ static inline void compare_call(int64_t due, int64_t got, const struct named *li
 }
 
 /* Notes that the next call comes, with so many words or bytes of room. */
-static void next_call(struct place *place, size_t room)
+static inline void next_call(struct place *place, size_t room)
 {
     place->calls++;
     place->part_calls++;
@@ -212,7 +215,7 @@ static void next_call(struct place *place, size_t room)
 }
 
 /* Says where the test is when a signal stops a call, and lets the signal end the program. */
-static void on_signal(int number)
+static inline void on_signal(int number)
 {
     static const char WHY[] = "the call was stopped by a signal\n";
     ssize_t written = write(STDOUT_FILENO, place_text, strlen(place_text));
@@ -223,7 +226,7 @@ static void on_signal(int number)
 }
 
 /* Has the signals that stop a call say where the test is. */
-static void watch_signals(void)
+static inline void watch_signals(void)
 {
     static const int STOPPING[] = {SIGALRM, SIGABRT, SIGSEGV, SIGBUS, SIGFPE, SIGILL};
     for (size_t i = 0; i < sizeof STOPPING / sizeof STOPPING[0]; i++)
@@ -231,7 +234,7 @@ static void watch_signals(void)
 }
 
 /* Reads the next command's word, and carries out those that only say where the test is; 0 at the end. */
-static int next_command(char word[NAME_BYTES], struct place *place)
+static inline int next_command(char word[NAME_BYTES], struct place *place)
 {
     while (read_word(word)) {
         if (strcmp(word, "part") != 0)
@@ -242,7 +245,7 @@ static int next_command(char word[NAME_BYTES], struct place *place)
 }
 
 /* Carries out all commands, each by its word, takes back what is still lent, and says how many calls they were. */
-static void carry_out(struct place *place, void (*command)(const char *word), struct lent *const *lists, size_t count)
+static inline void carry_out(struct place *place, void (*command)(const char *word), struct lent *const *lists, size_t count)
 {
     char word[NAME_BYTES];
     watch_signals();

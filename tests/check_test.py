@@ -147,7 +147,7 @@ def test_misuse(place):
     for words, said in ((("a", "b"), "one sheet at a time"), (("-x",), "no option '-x'"), (("-",), "no option '-'"),
                         (("nothing",), "no file 'nothing'"), (("",), "no file ''"), (("docs",), "a folder"),
                         (("--help", "me"), "--help"), (("--explain",), "one number"), (("--explain", "1", "2"), "one number"),
-                        *((("--explain", word), "1 to 21, 24 and 25") for word in ("0", "22", "23", "26", "024", "x"))):
+                        *((("--explain", word), "1 to 21 and 24 to 26") for word in ("0", "22", "23", "27", "024", "x"))):
         assert said in refused(place.check(*words)), words
     closed = place.check(stdin=None, preexec_fn=lambda: os.close(0))
     assert "standard input is closed" in refused(closed)
@@ -156,7 +156,7 @@ def test_misuse(place):
 # The help, and an explanation for every number.
 def test_texts(place):
     assert place.check("--help").status == 0 and b"--explain N" in place.check("--help").out
-    for number in (*range(1, 22), 24, 25):
+    for number in (*range(1, 22), 24, 25, 26):
         ended = place.check("--explain", str(number))
         heading, *body = ended.out.decode().split("\n\n")
         assert ended.status == 0 and heading.startswith(f"Refusal {number}: ") and body, ended

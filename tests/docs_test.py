@@ -9,8 +9,9 @@ An example of a document is one of these:
     a fenced block marked `sheet` (a whole sheet, with real tabs) or `c` (a whole program), and the block after it, marked
     `output`: exactly what is printed;
     a command in a block marked `console`: a line that begins with `$ `, and the lines below it, which are what is printed.
-    Known are `./check FILE`, `./check < FILE` and `./saltreeve why FILE [QUESTION ..]`. A FILE with a slash is one of the
-    repository; a bare name, as in `./check blades.sheet`, stands for the sheet that is shown last above the command.
+    Known are `./check FILE`, `./check < FILE`, `./saltreeve check FILE` and `./saltreeve why FILE [QUESTION ..]`. A FILE
+    with a slash is one of the repository; a bare name, as in `./check blades.sheet`, stands for the sheet that is shown
+    last above the command.
 A `c` block without an `output` block after it is no example, but a `sheet` block must have one, or a `console` block.
 Blocks with any other mark are passed over. A sheet of examples/ is NAME.sheet, and what is printed for it NAME.out.
 A reason that is shown should be the only one that there is: which one is given is otherwise free.
@@ -29,8 +30,8 @@ import harness
 
 DOCUMENTS = ("README.md", "docs/*.md", "docs/landings/*.md", "examples/*.md")
 
-# An example: where it stands, its kind ("sheet", "c" or "why"), the bytes given, for "why" the question (None: there is
-# none), and the bytes that are to be printed.
+# An example: where it stands, its kind ("sheet", "c", "check" or "why", of which the last two are verbs of ./saltreeve),
+# the bytes given, for "why" the question (None: there is none), and the bytes that are to be printed.
 Example = namedtuple("Example", "place kind given question printed")
 
 
@@ -45,13 +46,13 @@ def named_sheet(place, name, shown):
 
 # The example that a command is; `shown` are the bytes of the sheet that is shown last above it.
 def command_example(place, command, printed, shown):
-    known = re.fullmatch(r"\./check (?:< )?(\S+)|\./saltreeve why (\S+)((?: \S+)*)", command)
+    known = re.fullmatch(r"\./check (?:< )?(\S+)|\./saltreeve (?:check (\S+)|why (\S+)((?: \S+)*))", command)
     if known is None:
         raise SystemExit(f"docs: {place}: this command is not known here: {command}")
-    checked, asked, question = known.groups()
-    sheet = named_sheet(place, checked or asked, shown)
-    if checked is not None:
-        return Example(place, "sheet", sheet, None, printed)
+    checked, by_edition, asked, question = known.groups()
+    sheet = named_sheet(place, checked or by_edition or asked, shown)
+    if asked is None:
+        return Example(place, "sheet" if checked else "check", sheet, None, printed)
     return Example(place, "why", sheet, "\t".join(question.split()) or None, printed)
 
 
@@ -99,12 +100,12 @@ def program_printed(program, sheet):
     return subprocess.run([program], input=sheet, check=True, stdout=subprocess.PIPE).stdout
 
 
-# What the program behind ./saltreeve prints for a question about a sheet, or for none.
+# What the program behind ./saltreeve prints for a verb and a sheet, and a question if there is one.
 def tool_printed(tool, example):
     harness.BUILD.mkdir(parents=True, exist_ok=True)
     path = harness.BUILD / f"{file_name(example)}.sheet"
     path.write_bytes(example.given)
-    words = [tool, "why", path] + ([] if example.question is None else [example.question])
+    words = [tool, example.kind, path] + ([] if example.question is None else [example.question])
     return subprocess.run(words, check=True, stdout=subprocess.PIPE).stdout
 
 
@@ -112,6 +113,12 @@ def tool_printed(tool, example):
 def oracle_printed(sheet):
     import oracle_sheets
     return oracle_sheets.judge(sheet).text.encode()
+
+
+# What the oracle says is to be printed for a sheet with the store that its edition needs.
+def oracle_checked(sheet):
+    import oracle_why
+    return oracle_why.told_by(sheet).outcome.text.encode()
 
 
 # The text that the document has for a question, if the oracle of reasons allows it, as any one reason will do.
@@ -126,6 +133,8 @@ def printed(chosen, example):
         return None if chosen.oracle else documents.printed_by_c(file_name(example), example.given.decode(), chosen.library)
     if example.kind == "why":
         return oracle_reason(example) if chosen.oracle else tool_printed(chosen.tool, example)
+    if example.kind == "check":
+        return oracle_checked(example.given) if chosen.oracle else tool_printed(chosen.tool, example)
     return oracle_printed(example.given) if chosen.oracle else program_printed(chosen.program, example.given)
 
 
@@ -145,7 +154,7 @@ def arguments():
 
 # Runs all examples; 0 if each prints what its document says and, but for the oracle, examples of each kind are run.
 def main():
-    chosen, counts, wrong = arguments(), {"sheet": 0, "c": 0, "why": 0}, 0
+    chosen, counts, wrong = arguments(), {"sheet": 0, "check": 0, "c": 0, "why": 0}, 0
     for example in all_examples():
         got = printed(chosen, example)
         if got is None:
@@ -154,7 +163,7 @@ def main():
         if got != example.printed:
             wrong += 1
             print(f"docs: {example.place}: printed {got!r}, but {example.printed!r} is written there")
-    print(f"docs: {counts['sheet']} sheets, {counts['why']} questions and {counts['c']} C programs run, "
+    print(f"docs: {counts['sheet'] + counts['check']} sheets, {counts['why']} questions and {counts['c']} C programs run, "
           f"{wrong} print something else")
     due = ("sheet",) if chosen.oracle else tuple(counts)
     return 1 if wrong or any(counts[kind] == 0 for kind in due) else 0

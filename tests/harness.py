@@ -67,10 +67,11 @@ def main(chosen, selftest, run, calls, agree, differ):
     return 1
 
 
-# The commands of a short test, drawn by a module of cases, and the number of their calls.
-def short_test(cases, *drawn):
+# The commands of a short test, drawn by a module of cases, and the number of their calls. The commands are of the
+# module's own make, or of the one that it says.
+def short_test(cases, *drawn, make=None):
     written = []
-    commands = cases.Commands(written.append)
+    commands = (make or cases.Commands)(written.append)
     cases.write_all(commands, *drawn)
     return "".join(written), len(commands.calls)
 

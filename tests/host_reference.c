@@ -33,7 +33,7 @@ int64_t saltreeve_check(const uint8_t *sheet, size_t sheet_length, uint8_t *room
 {
     static struct sheet read;
     static struct text text;
-    uint64_t line, refused = read_sheet(&read, sheet, sheet_length, &line);
+    uint64_t line, refused = read_sheet(&read, sheet, sheet_length, SALTREEVE_WORDS, &line);
     print_sheet(&text, &read, line, refused);
     spoil((uint8_t *)sheet, sheet_length);
     return put_text(&text, room, room_length);

@@ -21,6 +21,9 @@ SELFTEST_SHEETS = 60
 ROUNDS = 1
 MOST_TEXT = sheet_cases.LONGEST_TEXT
 
+# The faults about editions that the smaller store shows.
+EDITION_FAULTS = ("EDITION_2_IN_SMALL", "EDITION_2_BY_12", "EDITION_2_AT_LINE_0")
+
 # Commands about a sheet that the sound stand-in passes, and some that are wrong about it, each in its own way.
 HEADER = "sheet 7 115 104 101 101 116 9 49 "
 TOTAL_0 = "116 111 116 97 108 9 48 10 "
@@ -83,6 +86,7 @@ def selftest(seed):
                             "host_reference.c")
     faults = [fault for file, variable in (("sheet_reference.h", "SHEET_FAULT"), ("text_reference.h", "TEXT_FAULT"),
                                            ("host_reference.c", "HOST_FAULT")) for fault in harness.planted(file, variable)]
+    faults += harness.chosen_faults(harness.planted("edition_reference.h", "EDITION_FAULT"), EDITION_FAULTS)
     return harness.selftest("host", seed, harness.short_test(sys.modules[__name__], seed, SELFTEST_SHEETS), program, faults,
                             RIGHT, SPOILED)
 

@@ -4,8 +4,9 @@
     python3 tests/lister_test.py --selftest
 
 PROGRAM is `lister` (crates/lister), which calls them: it reads a sheet with a list, and where the sheet is accepted it
-counts and lists the findings of some rules by number in the store that was left. The self-test needs no program: it
-plants faults in what is due, and each has to be seen in some case.
+counts and lists the findings of some rules by number in the store that was left. The first byte that it is given says
+which store it lends: 0 the smaller, 1 the smaller without its last word, 2 the larger, 3 the larger without its last
+word. The self-test needs no program: it plants faults in what is due, and each has to be seen in some case.
 """
 
 import sys
@@ -20,6 +21,8 @@ import oracle_sheets
 import rule_cases
 import sheet_cases
 import sheet_test
+import size_sheets
+from oracle import LARGE
 from oracle_rules import NO_ITEM, RULE_WORDS
 from oracle_sheets import printed
 from sheet_book import ACCEPTED, HEADER, Case, named, part, sheet_of
@@ -33,14 +36,16 @@ PLACES = 24  # records of a list
 RULES = 3  # rules a sheet
 MARK = (1000, 1000, 1000)  # what each record of a list is before
 
-# A sheet, whether its store is one word short, the rules that go with it, and what is due of it.
-Asked = namedtuple("Asked", "case short rules outcome")
+# A sheet, whether its store is one word short and whether it is the larger, the rules that go with it, and what is due.
+Asked = namedtuple("Asked", "case short large rules outcome")
 # A rule: how many items more are declared for it than the sheet does, its words; the answer due, and all its findings.
 Rule = namedtuple("Rule", "more words result found")
 
 # Something that the cases have to have: an answer of a rule, or how a list is filled.
-DUE = ["short store", "sheet accepted", "sheet refused", *(f"rule refused by {number}" for number in (1, 2, 3, 4)),
-       *(f"{what}: {how}" for what in ("sheet", "rule") for how in ("nothing found", "room left", "just full", "too many"))]
+DUE_OF_ONE = ["short store", "sheet accepted", "sheet refused", *(f"rule refused by {number}" for number in (1, 2, 3, 4)),
+              *(f"{what}: {how}" for what in ("sheet", "rule") for how in ("nothing found", "room left", "just full", "too many"))]
+DUE = [*DUE_OF_ONE, *(f"larger store: {kind}" for kind in DUE_OF_ONE), "larger store: over 128 items",
+       "larger store: an item of 256 or more"]
 
 
 # --- Cases ---
@@ -103,22 +108,54 @@ def full_lists(rng):
     for case in about_full():
         outcome = oracle_sheets.judge(case.sheet)
         words = [rule_cases.lay_out(rng, rule).words(rng) for rule in EVERY_ITEM]
-        yield Asked(case, False, [answered(outcome, 0, rule) for rule in words], outcome)
+        yield Asked(case, False, False, [answered(outcome, 0, rule) for rule in words], outcome)
 
 
-# Every sheet of a run: those that fill a list, then all others.
-def all_cases(seed, sheets):
+# Every sheet of a run with the smaller store: those that fill a list, then all others.
+def small_cases(seed, judged):
     rng = part(seed, "lists")
     yield from full_lists(rng)
-    for number, (case, outcome) in enumerate(sheet_cases.judged_cases(seed, sheets, ROUNDS)):
+    for number, (case, outcome) in enumerate(judged):
         short = number % 16 == 5
         due = oracle_sheets.judge(case.sheet, oracle.WORDS - 1) if short else outcome
-        yield Asked(case, short, draw_rules(rng, due), due)
+        yield Asked(case, short, False, draw_rules(rng, due), due)
+
+
+# A sheet with the larger store, the rules that go with it drawn, or given as tuples.
+def asked_large(rng, case, short=False, rules=None):
+    outcome = oracle_sheets.judge(case.sheet, LARGE.words - short)
+    if rules is None or outcome.number is not None:
+        return Asked(case, short, True, draw_rules(rng, outcome), outcome)
+    return Asked(case, short, True, [answered(outcome, 0, rule_cases.lay_out(rng, rule).words(rng)) for rule in rules], outcome)
+
+
+# Sheets with the larger store: those that fill a list, some of the others in either edition, with stores that are one
+# word short too, and some of those that are made for both editions.
+def large_cases(seed, sheets, judged):
+    rng = part(seed, "large-lists")
+    for case in about_full():
+        yield asked_large(rng, Case(case.name, size_sheets.turned(case.sheet), ACCEPTED), rules=EVERY_ITEM)
+    for number, (case, _) in enumerate(judged):
+        if number % 16 in (2, 6):
+            yield asked_large(rng, case, short=number % 64 == 2)
+        if number % 16 == 9:
+            yield asked_large(rng, Case(case.name, size_sheets.turned(case.sheet), None))
+    for number, case in enumerate(size_sheets.all_cases(seed, sheets // 4)):
+        if number % 3 == 0 or case.name.startswith(("border", "chain", "findings")):
+            yield asked_large(rng, case, rules=EVERY_ITEM if number % 2 == 0 and case.name.startswith("findings") else None)
+
+
+# Every sheet of a run.
+def all_cases(seed, sheets):
+    judged = list(sheet_cases.judged_cases(seed, sheets, ROUNDS))
+    yield from small_cases(seed, judged)
+    yield from large_cases(seed, sheets, judged)
 
 
 # What the program reads.
 def given_to(asked):
-    return bytes([asked.short, *(byte for rule in asked.rules for byte in (rule.more, *rule.words))]) + asked.case.sheet
+    rules = (byte for rule in asked.rules for byte in (rule.more, *rule.words))
+    return bytes([asked.short + 2 * asked.large, *rules]) + asked.case.sheet
 
 
 # --- What is due ---
@@ -173,6 +210,18 @@ def filling(total):
 
 # The kinds that a case belongs to.
 def kinds_of(asked):
+    kinds = kinds_of_one(asked)
+    if not asked.large:
+        return kinds
+    items = [item for finding in asked.outcome.findings[:PLACES] for item in finding[1:] if item != NO_ITEM]
+    items += [item for rule in asked.rules for finding in rule.found[:PLACES] for item in finding if item != NO_ITEM]
+    kinds += ["over 128 items"] * (asked.outcome.counts.items > 128 and asked.outcome.number is None)
+    kinds += ["an item of 256 or more"] * (max(items, default=0) >= 256)
+    return [f"larger store: {kind}" for kind in kinds]
+
+
+# The same, whatever the store.
+def kinds_of_one(asked):
     if asked.outcome.number is not None:
         return ["short store" if asked.short else "sheet refused"]
     results = [rule.result for rule in asked.rules]
@@ -258,6 +307,22 @@ def refused_but_written(outcome):
     return sound_sheet(outcome) if outcome.number is None else [*sound_sheet(outcome)[:1], *list_lines([(0, 0, NO_ITEM)])]
 
 
+# A sheet whose items are counted in 8 bits.
+def items_of_8_bits(outcome):
+    return sound_sheet(outcome._replace(counts=outcome.counts._replace(items=outcome.counts.items % 256)))
+
+
+# A sheet with no more than 128 items.
+def no_more_than_128(outcome):
+    few = outcome.number is not None or outcome.counts.items <= 128
+    return sound_sheet(outcome if few else outcome._replace(line=130, number=18))
+
+
+# The records with items of 8 bits.
+def items_cut(findings):
+    return sound_list([(rule, first % 256, second if second == NO_ITEM else second % 256) for rule, first, second in findings])
+
+
 # A sheet with the findings of its last rule left out.
 def last_rule_left_out(outcome):
     return sound_sheet(outcome._replace(findings=[one for one in outcome.findings if one[0] < outcome.rules - 1]))
@@ -270,9 +335,9 @@ def one_rule_more(outcome):
 
 PLANTED = {
     "listed": (one_past_the_total, rest_cleared, last_place_left, one_place_further, by_second_item, first_item_twice,
-               numbered_from_1),
+               numbered_from_1, items_cut),
     "total_line": (total_cut, counted_one_more, malformed_as_number, closed_never_asked, size_never_asked),
-    "sheet_lines": (refused_but_written, last_rule_left_out, one_rule_more),
+    "sheet_lines": (refused_but_written, last_rule_left_out, one_rule_more, items_of_8_bits, no_more_than_128),
 }
 
 
@@ -297,7 +362,7 @@ def selftest(seed):
 
 # Prints a case that the program does not agree on.
 def report_difference(seed, asked, due, got):
-    store = "one word short" if asked.short else "whole"
+    store = f"{'the larger' if asked.large else 'the smaller'}, {'one word short' if asked.short else 'whole'}"
     print(f"lists: seed {seed}: difference in {asked.case.name}, the store {store}; the sheet is:")
     print(sheet_test.shown(asked.case.sheet))
     for rule in asked.rules:

@@ -184,9 +184,13 @@ def query_of(rule):
 # --- The call under test ---
 
 
+# The limits of the counts: those of the larger store, as compiling has no store.
+LIMITS = oracle.LARGE.limits
+
+
 # What the rule is refused by, whatever the room; 0 if by none of -1, -3 and -4.
 def rule_refusal(counts, rule_words):
-    if oracle.wrong_size((0,) * oracle.WORDS, counts):
+    if any(count > limit for count, limit in zip(counts, LIMITS)):
         return oracle.REFUSED_SIZE
     if oracle_rules.malformed(rule_words):
         return oracle_rules.REFUSED_MALFORMED

@@ -190,7 +190,6 @@ class Meaning:
         self.cells = cells
         self.nodes = nodes
         self.items = range(len(cells.same))
-        self.pairs = [(x, y) for x in self.items for y in self.items]
         self.articles = set(cells.same)
         self.rows = {}
         self.known_links = {}
@@ -201,6 +200,10 @@ class Meaning:
             links = tuple(self.cells.links[role.number])
             self.known_links[role] = oracle.turned(links) if role.inverse else links
         return self.known_links[role]
+
+    # All pairs of items that a role links.
+    def linked_pairs(self, role):
+        return [(x, y) for x in self.items for y in oracle.bits(self.links(role)[x])]
 
     # Whether a role links a to b.
     def linked(self, role, a, b):
@@ -291,7 +294,7 @@ def broken_sub(meaning, C, D):
 
 # "rsub R S | x, y linked by R, not by S"
 def broken_rsub(meaning, R, S):
-    return [(x, y) for x, y in meaning.pairs if meaning.linked(R, x, y) and not meaning.linked(S, x, y)]
+    return [(x, y) for x, y in meaning.linked_pairs(R) if not meaning.linked(S, x, y)]
 
 
 # "chain R1..Rk R, k 2 to 4 | x, y joined by a path R1..Rk, not by R"
@@ -313,7 +316,7 @@ def broken_irr(meaning, R):
 
 # "dis R S | x, y linked by both"
 def broken_dis(meaning, R, S):
-    return [(x, y) for x, y in meaning.pairs if meaning.linked(R, x, y) and meaning.linked(S, x, y)]
+    return [(x, y) for x, y in meaning.linked_pairs(R) if meaning.linked(S, x, y)]
 
 
 # "in C a | a, if C does not hold of it"
@@ -371,7 +374,8 @@ def closed_cells(words, counts):
     return oracle.closed_cells(list(words), counts)
 
 
-# What the call is to give: its result, and all findings.
+# What the call is to give: its result, and all findings; remembered for the next call with the same rule.
+@lru_cache(maxsize=2)
 def answer(words, counts, rule_words):
     if oracle.wrong_size(words, counts):
         return oracle.REFUSED_SIZE, []

@@ -2,7 +2,8 @@
 
 The tests hold the library and the program `check` against this file. It is written
 from document 01 (sections "Sheets", "Numbers of refusal" and "Examples", with the
-points of reading that docs/DECISIONS.md takes) and from request 3 of document 02 alone.
+points of reading that docs/DECISIONS.md takes) and from requests 2 and 3 of document 02
+alone.
 Of every line all the numbers that apply are collected, and the least is given; the store
 and the findings come from tests/oracle.py and tests/oracle_rules.py.
 
@@ -32,8 +33,10 @@ NAME_BYTES = 24
 MOST_RULES = 64
 MOST_FINDING_LINES = 200
 MOST_NAMES = {"concept": 32, "role": 16, "item": 128}
+MOST_NAMES_2 = {**MOST_NAMES, "item": 512}  # of edition 2
 
 HEADER = "sheet\t1"
+HEADER_2 = "sheet\t2"
 ALL_ZERO = (0,) * oracle.WORDS
 MONTHS = ("jan", "feb", "mar", "apr", "may", "jun", "jul", "aug", "sep", "oct", "nov", "dec")
 LEAP_YEAR = 2000
@@ -94,8 +97,10 @@ OPERATORS = {
 class Sheet:
     """What the accepted lines of a sheet have given so far."""
 
-    # Nothing yet.
-    def __init__(self):
+    # Nothing yet; `size` is that of the store that is lent.
+    def __init__(self, size=oracle.SMALL):
+        self.size = size
+        self.edition = 1
         self.names = {"concept": {}, "role": {}, "item": {}}
         self.section = 0  # 0 declarations, 1 statements, 2 rules
         self.statements = []
@@ -205,6 +210,16 @@ def is_header(line):
     return line == HEADER
 
 
+# "Sheets with more than 128 items begin with `sheet`, `2`", and "11 meets edition 2 with the smaller store".
+def is_second_header(size, line):
+    return line == HEADER_2 and size == oracle.LARGE
+
+
+# "18 reads the edition's limit"
+def most_names(sheet, kind):
+    return (MOST_NAMES_2 if sheet.edition == 2 else MOST_NAMES)[kind]
+
+
 # "12: unknown first word (`sheet` after line 1 too) or rule word"
 def word_unknown(fields):
     if section_of(fields[0]) is None:
@@ -223,7 +238,7 @@ def new_name_faults(sheet, kind, text):
         15: not (is_concept_name if kind == "concept" else is_name)(text),
         16: kind == "item" and is_date(text),
         17: text in sheet.names[kind],
-        18: len(sheet.names[kind]) >= MOST_NAMES[kind],
+        18: len(sheet.names[kind]) >= most_names(sheet, kind),
     }
     return {number for number in applies if applies[number]}
 
@@ -278,7 +293,7 @@ def line_faults(sheet, number, line):
     if line_is_bad(line):
         return {10}
     if number == 1:
-        return set() if is_header(line) else {11}
+        return set() if is_header(line) or is_second_header(sheet.size, line) else {11}
     return set() if line == "" else fields_faults(sheet, fields_of(line))
 
 
@@ -420,10 +435,15 @@ def cells_after(sheet):
     return cells
 
 
+# The words of some cells in the store that is lent.
+def words_in(sheet, cells):
+    return tuple(oracle.words_of(cells, sheet.size))
+
+
 # "the store is all zero if no earlier line was an accepted statement or rule, and otherwise holds what the
 # earlier lines gave"
 def words_if_refused(sheet):
-    return ALL_ZERO if sheet.section == 0 else tuple(oracle.words_of(cells_after(sheet)))
+    return (0,) * sheet.size.words if sheet.section == 0 else words_in(sheet, cells_after(sheet))
 
 
 # "Findings go by rule, then first item number, then second."
@@ -457,15 +477,15 @@ def refused(sheet, line, faults, words):
 
 
 # "An accepted sheet without statements leaves a fresh store."
-def words_if_accepted(cells):
-    return tuple(oracle.words_of(cells))
+def words_if_accepted(sheet, cells):
+    return words_in(sheet, cells)
 
 
 # A sheet that is accepted.
 def accepted(sheet):
     cells = cells_after(sheet)
     findings = findings_of(sheet, cells)
-    return Outcome(None, None, findings_text(sheet, findings), words_if_accepted(cells), findings, sheet.counts(),
+    return Outcome(None, None, findings_text(sheet, findings), words_if_accepted(sheet, cells), findings, sheet.counts(),
                    len(sheet.rules), set())
 
 
@@ -481,8 +501,9 @@ def numbered_lines(sheet_bytes):
 
 # What a sheet comes to.
 def judge(sheet_bytes, store_length=oracle.WORDS):
-    sheet = Sheet()
-    if store_length != oracle.WORDS:
+    size = oracle.size_of(store_length)
+    sheet = Sheet(size)
+    if size is None:
         return refused(sheet, 0, {1}, None)
     if sheet_too_long(sheet_bytes):
         return refused(sheet, 0, {9}, None)
@@ -490,6 +511,8 @@ def judge(sheet_bytes, store_length=oracle.WORDS):
         faults = line_faults(sheet, number, line)
         if faults:
             return refused(sheet, number, faults, words_if_refused(sheet))
-        if number > 1 and line != "":
+        if number == 1:
+            sheet.edition = 2 if is_second_header(size, line) else 1
+        elif line != "":
             accept(sheet, number, fields_of(line))
     return accepted(sheet)

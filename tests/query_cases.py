@@ -13,6 +13,8 @@ import oracle
 import oracle_queries
 import oracle_rules
 import rule_cases
+import size_cases
+import size_rules
 from oracle import LIMITS, Counts
 from oracle_queries import (CLOSE_NOT, CONCEPT, EQUALITY, ITEM_WORDS, MOST_ITEMS, OPEN_NOT, REFUSED_ROOM,
                             REFUSED_TOO_LONG, ROLE, Query)
@@ -264,23 +266,37 @@ def rooms(commands, seed, rounds):
             commands.ask_with(counts, words, all_rooms)
 
 
-# Rules about the last numbers that can be declared.
+# Rules about the last numbers that can be declared, in a smaller and in a larger store.
 def last_numbers(commands, seed):
     rng = commands.part(seed, "last-numbers", 0)
-    for rule in rule_cases.LAST_NUMBERS_RULES:
-        require(commands.ask_with(LIMITS, lay_out(rng, rule).words(rng), all_rooms) > 0, "the last numbers are refused")
+    for limits, rules in ((LIMITS, rule_cases.LAST_NUMBERS_RULES), (oracle_queries.LIMITS, size_rules.LAST_NUMBERS_RULES)):
+        for rule in rules:
+            require(commands.ask_with(limits, lay_out(rng, rule).words(rng), all_rooms) > 0, "the last numbers are refused")
 
 
 # Counts at their limits, which stand, and past them, for a rule that names nothing.
 def count_limits(commands, seed):
     rng = commands.part(seed, "count-limit", 0)
     words = lay_out(rng, ("sub", TOP, TOP)).words(rng)
-    require(commands.ask(rng, LIMITS, words) == 2, "the limits are refused")
-    for which, limit in zip(Counts._fields, LIMITS):
-        for over in (limit + 1, 2 * limit, limit + 256, 2**32 + limit, *HUGE):
-            for counts in (Counts(0, 0, 0), LIMITS):
-                result = commands.ask(rng, counts._replace(**{which: over}), words)
-                require(result == oracle.REFUSED_SIZE, "a count over its limit is taken")
+    for limits in (LIMITS, oracle_queries.LIMITS):
+        require(commands.ask(rng, limits, words) == 2, "the limits are refused")
+        for which, limit in zip(Counts._fields, oracle_queries.LIMITS):
+            for over in (limit + 1, 2 * limit, limit + 256, 2**32 + limit, *HUGE):
+                for counts in (Counts(0, 0, 0), limits):
+                    result = commands.ask(rng, counts._replace(**{which: over}), words)
+                    require(result == oracle.REFUSED_SIZE, "a count over its limit is taken")
+
+
+# Numbers of items from 129 to 512, and terms of their items on both sides of each border between words.
+def many_items(commands, seed):
+    for number, items in enumerate(size_cases.BORDER_COUNTS):
+        rng = commands.part(seed, "many-items", number)
+        counts = Counts(items, 2, 2)
+        near = [item for item in size_cases.BORDERS if item < items] + [items - 1, items]
+        for item in rng.sample(near, 4) + [items - 1, items]:
+            for rule in (("same", item, 0), ("rel", 0, 1, 0, item), ("in", ("one", item), item), ("sub", TOP, ("one", item))):
+                result = commands.ask(rng, counts, lay_out(rng, rule).words(rng))
+                require((result > 0) == (item < items), "an item is refused otherwise")
 
 
 # --- Lengths at the limit and far past it ---
@@ -404,7 +420,8 @@ def all_wrong(commands, rng, rule_length, size, malformed, undeclared, too_long,
         rule_words = (rule_words * 2)[:rng.choice(WRONG_RULE_LENGTHS)]
     if size:
         which = rng.randrange(3)
-        counts = counts._replace(**{Counts._fields[which]: rng.choice((LIMITS[which] + 1, 2 * LIMITS[which], *HUGE))})
+        limit = oracle_queries.LIMITS[which]
+        counts = counts._replace(**{Counts._fields[which]: rng.choice((limit + 1, 2 * limit, *HUGE))})
     before = commands.results.copy()
     commands.ask_with(counts, rule_words, lambda enough: [rng.choice((0, 1, 3)) if room else MOST_ROOM + 64])
     result, = commands.results - before
@@ -441,6 +458,7 @@ def write_all(commands, seed, rules, rounds):
     rooms(commands, seed, rounds)
     last_numbers(commands, seed)
     count_limits(commands, seed)
+    many_items(commands, seed)
     limit_lengths(commands, seed, 2 * rounds)
     cut_lengths(commands, seed)
     nests(commands, seed)

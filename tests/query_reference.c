@@ -35,7 +35,11 @@ enum fault {
     NUMBERS_BEFORE_SHAPE,      /* 4 is given where 3 is due */
     SHAPE_BEFORE_COUNTS,       /* 3 is given where 1 is due */
     COUNTS_UNASKED,            /* counts over their limits are taken */
-    ITEMS_129_TAKEN,           /* 129 items are taken */
+    COUNT_513_TAKEN,           /* a count of 513 items is taken */
+    COUNT_129_REFUSED,         /* a count of 129 items is refused */
+    COUNT_512_REFUSED,         /* a count of 512 items is refused */
+    TERMS_OF_128,              /* the term of an item is cut to that of one of 128 */
+    TERMS_OF_256,              /* the term of an item is cut to that of one of 256 */
     CONCEPTS_32_REFUSED,       /* 32 concepts are refused */
     LONG_RULE_TAKEN,           /* a rule of more than 173 words is taken */
     SHORT_RULE_TAKEN,          /* a rule of less than 173 words is read as if zeros followed */
@@ -138,6 +142,8 @@ static uint64_t item_term(uint64_t a)
         return a;
     if (QUERY_FAULT == ITEM_TERMS_FROM_4097)
         return FIRST_ITEM + 1 + a;
+    if (QUERY_FAULT == TERMS_OF_128 || QUERY_FAULT == TERMS_OF_256)
+        return FIRST_ITEM + a % (QUERY_FAULT == TERMS_OF_128 ? 128 : 256);
     return FIRST_ITEM + (QUERY_FAULT == ITEM_TERMS_BY_OR_64 ? a % 64 : a);
 }
 
@@ -484,7 +490,9 @@ static int counts_over(const struct call *c)
 {
     if (QUERY_FAULT == COUNTS_UNASKED)
         return 0;
-    return c->items > SALTREEVE_ITEMS + (QUERY_FAULT == ITEMS_129_TAKEN) || c->roles > SALTREEVE_ROLES
+    uint64_t most = QUERY_FAULT == COUNT_129_REFUSED ? SALTREEVE_ITEMS
+        : SALTREEVE_LARGE_ITEMS + (QUERY_FAULT == COUNT_513_TAKEN) - (QUERY_FAULT == COUNT_512_REFUSED);
+    return c->items > most || c->roles > SALTREEVE_ROLES
         || c->concepts > SALTREEVE_CONCEPTS - (QUERY_FAULT == CONCEPTS_32_REFUSED);
 }
 
@@ -585,7 +593,7 @@ int64_t saltreeve_compile(uint64_t items, uint64_t concepts, uint64_t roles,
     int taken = (QUERY_FAULT == LONG_RULE_TAKEN && rule_length > SALTREEVE_RULE_WORDS)
         || (QUERY_FAULT == SHORT_RULE_TAKEN && rule_length < SALTREEVE_RULE_WORDS);
     const uint64_t *rule = taken ? padded_rule(given, rule_length, padded) : given;
-    struct call c = {NULL, items, concepts, roles, rule};
+    struct call c = {NULL, items, concepts, roles, rule, 0};
     struct writer w = {rule, room, room_length, 0, 0, 0};
     int64_t refused = refusal(&c, taken || rule_length == SALTREEVE_RULE_WORDS, room_length);
     if (refused != 0) {

@@ -2,8 +2,8 @@
  * Checks sheets in lent stores, and compares.
  *
  *   read_driver                  reads commands from standard input (see tests/read_test.py)
- *   read_driver --time SHEET..   prints the mean time of checking the worst sheets, and
- *                                those in the files given
+ *   read_driver --time SHEET..   prints the mean time of checking the worst sheets, those of
+ *                                edition 2 with the larger store, and those in the files given
  *
  * The commands are words and decimal numbers parted by blanks. A list of words is
  * written as its length, then how many words are not 0, then an index and a value for
@@ -31,6 +31,7 @@
 #include "calls.h"
 #include "saltreeve.h"
 
+#include <stdarg.h>
 #include <time.h>
 
 enum { AS_LEFT = 0 };
@@ -209,21 +210,177 @@ static void unders(struct timed *sheet)
             add_line(sheet, "under", 2, (size_t[]){under, over});
 }
 
-/* The sheets that are timed, and the last line of the text of each. */
+/* --- Sheets of edition 2 --- */
+
+enum { BLADES = 400, HUBS = 60, RINGS = 52 };
+
+/* Adds to a sheet, in the manner of printf. */
+static void add_text(struct timed *sheet, const char *format, ...)
+{
+    char text[SALTREEVE_TEXT];
+    va_list given;
+    va_start(given, format);
+    vsnprintf(text, sizeof text, format, given);
+    va_end(given);
+    add(sheet, text);
+}
+
+/* Adds the code of one of 512 items: blades, then hubs, then rings. */
+static void add_code(struct timed *sheet, const char *before, size_t item)
+{
+    if (item < BLADES)
+        add_text(sheet, "%sAX-%03zu", before, item + 1);
+    else if (item < BLADES + HUBS)
+        add_text(sheet, "%sHX-%02zu", before, item - BLADES + 1);
+    else
+        add_text(sheet, "%sRX-%02zu", before, item - BLADES - HUBS + 1);
+}
+
+/* Begins a sheet of edition 2 with so many concepts and roles and 512 items, named by their codes. */
+static void begin_large(struct timed *sheet, size_t concepts, size_t roles)
+{
+    sheet->length = 0;
+    add(sheet, "sheet\t2\n");
+    declare(sheet, "concept", concepts);
+    declare(sheet, "role", roles);
+    for (size_t item = 0; item < SALTREEVE_LARGE_ITEMS; item++) {
+        add_code(sheet, "item\t", item);
+        add(sheet, "\n");
+    }
+}
+
+/* Makes all items the same, the last ones first. */
+static void merge_large(struct timed *sheet)
+{
+    for (size_t item = SALTREEVE_LARGE_ITEMS - 1; item > 0; item--) {
+        add_code(sheet, "same\t", item);
+        add_code(sheet, "\t", item - 1);
+        add(sheet, "\n");
+    }
+}
+
+/* Adds a link by a role. */
+static void link_large(struct timed *sheet, size_t role, size_t first, size_t second)
+{
+    add(sheet, "rel");
+    add_name(sheet, role);
+    add_code(sheet, "\t", first);
+    add_code(sheet, "\t", second);
+    add(sheet, "\n");
+}
+
+/* Adds links by the first role from blades to hubs as long as there is room, and line feeds up to the last byte. */
+static void fill_up(struct timed *sheet, const char *rules)
+{
+    for (size_t blade = 0; blade < BLADES && sheet->length + strlen(rules) + 20 <= SALTREEVE_SHEET; blade++)
+        link_large(sheet, 0, blade * 7 % BLADES, BLADES + blade % HUBS);
+    add(sheet, rules);
+    while (sheet->length < SALTREEVE_SHEET)
+        add(sheet, "\n");
+}
+
+/* A catalogue of 512 codes and 32,768 bytes: each item in its family, a few the same, links, and rules that are broken. */
+static void catalogue_512(struct timed *sheet)
+{
+    static const char RULES[] = "rule\tsub\tA\tsome\tA\tB\nrule\tsub\tB\tatleast\t2\tB\tA\nrule\tirr\tA\nrule\tdis\tA\tC\n"
+        "rule\trsub\tB\t~A\nrule\tchain\tA\tB\tC\nrule\tsub\tC\tall\tC\tC\nrule\tsub\tB\tatmost\t7\tB\tA\n"
+        "rule\tdiffer\tAX-001\tAX-400\nrule\trel\tA\tAX-129\tHX-01\nrule\tin\tD\tRX-52\nrule\tsub\tE\tnot\tsome\tA\ttop\n";
+    begin_large(sheet, 5, 3);
+    add(sheet, "under\tA\tD\nunder\tB\tD\nunder\tC\tD\nrunder\tA\t~B\n");
+    for (size_t item = 0; item < SALTREEVE_LARGE_ITEMS; item++) {
+        add_code(sheet, "in\t", item);
+        add_name(sheet, item < BLADES ? 0 : item < BLADES + HUBS ? 1 : 2);
+        add(sheet, "\n");
+    }
+    for (size_t item = 0; item < 12; item++) {
+        add_code(sheet, "same\t", 30 * item);
+        add_code(sheet, "\t", 31 * item + 7);
+        add(sheet, "\n");
+    }
+    fill_up(sheet, RULES);
+}
+
+/* 512 items and 511 lines that make all of them the same, one by one, each with what is linked to it. */
+static void merges_512(struct timed *sheet)
+{
+    begin_large(sheet, 1, SALTREEVE_ROLES);
+    for (size_t role = 0; role < SALTREEVE_ROLES; role++)
+        link_large(sheet, role, 0, SALTREEVE_LARGE_ITEMS - 1);
+    merge_large(sheet);
+}
+
+/* All items the same and linked, then each role under the next one's inverse, around and around. */
+static void turns_512(struct timed *sheet)
+{
+    begin_large(sheet, 0, SALTREEVE_ROLES);
+    merge_large(sheet);
+    link_large(sheet, 0, 0, 0);
+    for (size_t step = 0; sheet->length + 40 <= SALTREEVE_SHEET && step < 16 * SALTREEVE_ROLES; step++) {
+        add(sheet, "runder");
+        add_name(sheet, step % SALTREEVE_ROLES);
+        add_text(sheet, "\t~%c\n", "ABCDEFGHIJKLMNOP"[(step * 7 + 1) % SALTREEVE_ROLES]);
+    }
+}
+
+/* All items the same and linked by all roles, and as many rules of 30 nested at leasts as there is room for. */
+static void deep_512(struct timed *sheet)
+{
+    begin_large(sheet, 1, SALTREEVE_ROLES);
+    merge_large(sheet);
+    for (size_t role = 0; role < SALTREEVE_ROLES; role++)
+        link_large(sheet, role, 0, 0);
+    for (size_t rule = 0; rule < RULES && sheet->length + 500 <= SALTREEVE_SHEET; rule++) {
+        add(sheet, "rule\tsub");
+        for (size_t level = 0; level < DEPTH; level++) {
+            add(sheet, "\tatleast\t8");
+            add_name(sheet, level % SALTREEVE_ROLES);
+        }
+        add(sheet, "\ttop\tA\n");
+    }
+}
+
+/* All items the same and linked by all roles but the last, and 64 chains of four roles under that one. */
+static void chains_512(struct timed *sheet)
+{
+    begin_large(sheet, 1, SALTREEVE_ROLES);
+    merge_large(sheet);
+    for (size_t role = 0; role + 1 < SALTREEVE_ROLES; role++)
+        link_large(sheet, role, 0, 0);
+    for (size_t rule = 0; rule < RULES; rule++)
+        add_line(sheet, "rule\tchain", 5, (size_t[]){0, 1, 2, 3, SALTREEVE_ROLES - 1});
+}
+
+/* 512 items, and as many links as there is room for. */
+static void links_512(struct timed *sheet)
+{
+    begin_large(sheet, 0, 4);
+    for (size_t n = 0; sheet->length + 30 <= SALTREEVE_SHEET; n++)
+        link_large(sheet, n % 4, n * 37 % SALTREEVE_LARGE_ITEMS, n * 101 % SALTREEVE_LARGE_ITEMS);
+}
+
+/* The sheets that are timed, the last line of the text of each, and the words of the store. */
 static const struct timing {
     const char *name;
     void (*build)(struct timed *);
     const char *due;
+    size_t words;
 } TIMINGS[] = {
-    {"header, then line feeds only", line_feeds, "total\t0\n"},
-    {"all same, all linked, 64 rules of 32 nodes", deep_rules, "total\t0\n"},
-    {"all same, 64 chains of 4, all pairs found", chains, "total\t1048576\n"},
-    {"3,000 links", links, "total\t0\n"},
-    {"496 unders", unders, "total\t0\n"},
+    {"header, then line feeds only", line_feeds, "total\t0\n", SALTREEVE_WORDS},
+    {"all same, all linked, 64 rules of 32 nodes", deep_rules, "total\t0\n", SALTREEVE_WORDS},
+    {"all same, 64 chains of 4, all pairs found", chains, "total\t1048576\n", SALTREEVE_WORDS},
+    {"3,000 links", links, "total\t0\n", SALTREEVE_WORDS},
+    {"496 unders", unders, "total\t0\n", SALTREEVE_WORDS},
+    {"larger store: header, line feeds", line_feeds, "total\t0\n", SALTREEVE_LARGE_WORDS},
+    {"larger store: 512 codes, a catalogue", catalogue_512, "total\t3007\n", SALTREEVE_LARGE_WORDS},
+    {"larger store: 512 codes, links", links_512, "total\t0\n", SALTREEVE_LARGE_WORDS},
+    {"larger store: 512 made the same", merges_512, "total\t0\n", SALTREEVE_LARGE_WORDS},
+    {"larger store: turns after full links", turns_512, "total\t0\n", SALTREEVE_LARGE_WORDS},
+    {"larger store: all linked, deep rules", deep_512, "total\t0\n", SALTREEVE_LARGE_WORDS},
+    {"larger store: 64 chains, all pairs found", chains_512, "total\t16777216\n", SALTREEVE_LARGE_WORDS},
 };
 
 /* The text of the sheet that was timed last. */
-static uint8_t timed_text[SALTREEVE_TEXT];
+static uint8_t timed_text[SALTREEVE_LARGE_TEXT];
 static size_t timed_length;
 
 /* Seconds since some fixed moment. */
@@ -235,15 +392,15 @@ static double seconds(void)
 }
 
 /* Checks a sheet some times and prints how long that takes. */
-static void time_sheet(const char *name, const struct timed *sheet)
+static void time_sheet(const char *name, const struct timed *sheet, size_t length)
 {
-    static uint64_t words[SALTREEVE_WORDS];
+    static uint64_t words[SALTREEVE_LARGE_WORDS];
     int calls = 0;
     double start = seconds(), spent = 0;
     for (; calls < MOST_CALLS && spent < TIMED_SECONDS; calls++) {
         alarm(CALL_SECONDS);
-        timed_length = (size_t)saltreeve_check_in((const uint8_t *)sheet->bytes, sheet->length, words, SALTREEVE_WORDS,
-                                                  timed_text, SALTREEVE_TEXT);
+        timed_length = (size_t)saltreeve_check_in((const uint8_t *)sheet->bytes, sheet->length, words, length,
+                                                  timed_text, sizeof timed_text);
         alarm(0);
         spent = seconds() - start;
     }
@@ -262,7 +419,7 @@ static void time_worst(struct timed *sheet)
 {
     for (size_t i = 0; i < COUNT(TIMINGS); i++) {
         TIMINGS[i].build(sheet);
-        time_sheet(TIMINGS[i].name, sheet);
+        time_sheet(TIMINGS[i].name, sheet, TIMINGS[i].words);
         if (!ends_in(TIMINGS[i].due))
             stop("a timed sheet comes to something else");
     }
@@ -276,7 +433,7 @@ static void time_file(struct timed *sheet, const char *name)
         stop("a file cannot be read");
     sheet->length = fread(sheet->bytes, 1, sizeof sheet->bytes, file);
     fclose(file);
-    time_sheet(name, sheet);
+    time_sheet(name, sheet, SALTREEVE_WORDS);
     if (timed_text[0] == 'r')
         stop("the sheet in the file is refused");
 }

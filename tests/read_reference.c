@@ -48,11 +48,14 @@ struct outcome {
     int touched;
 };
 
-/* Whether a store of this length is taken. */
-static int length_taken(size_t length)
+/* The length of the store that is taken; 0 if none is. */
+static size_t length_taken(size_t length)
 {
-    return length == SALTREEVE_WORDS || (READ_FAULT == LONGER_TAKEN && length > SALTREEVE_WORDS)
-        || (READ_FAULT == SHORTER_TAKEN && length == SALTREEVE_WORDS - 1) || (READ_FAULT == EMPTY_TAKEN && length == 0);
+    if (store_taken(length) != 0)
+        return store_taken(length);
+    return (READ_FAULT == LONGER_TAKEN && length > SALTREEVE_WORDS)
+        || (READ_FAULT == SHORTER_TAKEN && length == SALTREEVE_WORDS - 1) || (READ_FAULT == EMPTY_TAKEN && length == 0)
+        ? SALTREEVE_WORDS : 0;
 }
 
 /* Whether a sheet is refused before the store's length is asked. */
@@ -67,7 +70,7 @@ static void spoil_refused(struct outcome *outcome, struct sheet *sheet)
     if (READ_FAULT == REFUSED_UNTOUCHED || (READ_FAULT == REFUSED_EMPTY_KEPT && sheet->section == 0))
         outcome->touched = 0;
     if (READ_FAULT == REFUSED_ZERO || (READ_FAULT == RULES_MAKE_NO_STORE && sheet->statements == 0))
-        memset(sheet->words, 0, sizeof sheet->words);
+        memset(sheet->words, 0, sheet->length * sizeof *sheet->words);
     if (READ_FAULT == (sheet->section == 0 ? REFUSED_FRESH : REFUSED_FORGETS))
         make_fresh(sheet);
 }
@@ -80,7 +83,7 @@ static void spoil_accepted(struct outcome *outcome, struct sheet *sheet)
     if (READ_FAULT == ACCEPTED_UNTOUCHED)
         outcome->touched = 0;
     if (READ_FAULT == ACCEPTED_ZERO)
-        memset(sheet->words, 0, sizeof sheet->words);
+        memset(sheet->words, 0, sheet->length * sizeof *sheet->words);
 }
 
 /* Refuses a store of a wrong length. */
@@ -89,16 +92,16 @@ static void refuse_length(struct outcome *outcome, struct sheet *sheet)
     outcome->line = READ_FAULT == LENGTH_AT_LINE_1;
     outcome->refused = READ_FAULT == LENGTH_BY_9 ? 9 : 1;
     outcome->touched = READ_FAULT == WRONG_LENGTH_ZERO;
-    begin(sheet);
+    begin(sheet, SALTREEVE_WORDS);
 }
 
 /* Reads the sheet and says what it comes to. */
 static void read_all(struct outcome *outcome, struct sheet *sheet, const uint8_t *bytes, size_t bytes_length, size_t length)
 {
-    int taken = length_taken(length);
+    size_t taken = length_taken(length);
     outcome->refused = 0;
     if (taken || READ_FAULT == TOO_LONG_FIRST || READ_FAULT == FAULTS_FIRST)
-        outcome->refused = read_sheet(sheet, bytes, bytes_length, &outcome->line);
+        outcome->refused = read_sheet(sheet, bytes, bytes_length, taken ? taken : SALTREEVE_WORDS, &outcome->line);
     outcome->touched = outcome->refused != 9 || READ_FAULT == TOO_LONG_ZERO;
     if (!taken && !refused_first(outcome))
         refuse_length(outcome, sheet);
@@ -107,11 +110,24 @@ static void read_all(struct outcome *outcome, struct sheet *sheet, const uint8_t
 /* Writes the store. */
 static void write_store(uint64_t *words, size_t length, const struct sheet *sheet)
 {
-    size_t most = length < SALTREEVE_WORDS ? length : SALTREEVE_WORDS;
+    size_t most = length < sheet->length ? length : sheet->length;
+    if (most > SALTREEVE_WORDS)
+        most = EDITION_FAULT == LARGE_REST_STAYS ? SALTREEVE_WORDS : most - (EDITION_FAULT == LARGE_LAST_WORD_STAYS);
     for (size_t i = READ_FAULT == FIRST_WORD_STAYS; i + (READ_FAULT == LAST_WORD_STAYS) < most; i++)
         words[i] = sheet->words[i] | (READ_FAULT == BITS_STAY ? words[i] : 0);
     if (READ_FAULT == WRITES_PAST_THE_STORE)
         words[length] = 0;
+}
+
+/* Moves the cells of a sheet to their places in the smaller layout, at the front of the larger store. */
+static void in_small_rows(struct sheet *sheet)
+{
+    static uint64_t moved[SALTREEVE_WORDS];
+    if (saltreeve_convert(sheet->words, sheet->length, sheet->items.count, sheet->concepts.count, sheet->roles.count, moved,
+                          SALTREEVE_WORDS) < 0)
+        return;
+    memset(sheet->words, 0, sizeof sheet->words);
+    memcpy(sheet->words, moved, sizeof moved);
 }
 
 /* What some faults do where the room is too short. */
@@ -120,7 +136,7 @@ static void spoil_8(struct outcome *outcome, struct sheet *sheet)
     if (READ_FAULT == UNREAD_BEFORE_8)
         outcome->touched = 0;
     if (READ_FAULT == CLEARED_BEFORE_8)
-        memset(sheet->words, 0, sizeof sheet->words);
+        memset(sheet->words, 0, sheet->length * sizeof *sheet->words);
 }
 
 /* Checks a sheet in the words of a store. */
@@ -141,6 +157,8 @@ int64_t saltreeve_check_in(const uint8_t *bytes, size_t bytes_length, uint64_t *
     int64_t result = put_text(&text, room, room_length);
     if (result < 0)
         spoil_8(&outcome, &sheet);
+    if (EDITION_FAULT == EDITION_1_IN_SMALL_ROWS && sheet.edition == 1 && sheet.length == SALTREEVE_LARGE_WORDS)
+        in_small_rows(&sheet);
     if (outcome.touched)
         write_store(words, length, &sheet);
     if (READ_FAULT == CHANGES_THE_SHEET && bytes_length > 0)

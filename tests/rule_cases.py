@@ -18,7 +18,7 @@ import oracle_rules
 import store_cases
 from oracle import LIMITS, WORDS, Counts
 from oracle_rules import HEAD_WORDS, NO_ITEM, NODE_FIELDS, NODE_LIMIT, NODE_WORDS, RULE_FIELDS, RULE_WORDS
-from store_cases import (HUGE, WRONG_LENGTHS, changed_words, counts_of_call, filled, require,
+from store_cases import (HUGE, WRONG_LENGTHS, all_linked, changed_words, counts_of_call, filled, require,
                          wrong_numbers_for)
 
 RULES_A_STORE = 8
@@ -351,18 +351,6 @@ def last_numbers(commands, seed, rounds):
         commands.load(draw_words(rng, LIMITS))
         for rule in LAST_NUMBERS_RULES:
             require(commands.ask(rng, LIMITS, lay_out(rng, rule).words(rng)) >= 0, "the oracle refuses the last numbers")
-
-
-# The cells of a store in which every role but those from `apart` on links all to all.
-def all_linked(counts, merged, apart):
-    cells = oracle.Cells(counts)
-    everything = 2**counts.items - 1
-    cells.same = [everything if merged else 1 << a for a in range(counts.items)]
-    cells.under = [1 << A for A in range(counts.concepts)]
-    cells.role_under = [2**apart - 1 if R < apart else 1 << R for R in range(counts.roles)]
-    cells.role_under_inverse = [2**apart - 1 if R < apart else 0 for R in range(counts.roles)]
-    cells.links = [[everything if R < apart else 0] * counts.items for R in range(counts.roles)]
-    return cells
 
 
 # Expressions that each use the next, so many around the last.

@@ -98,46 +98,63 @@ static void run_commands(void)
     carry_out(&run.place, do_command, lists, COUNT(lists));
 }
 
-/* --- Measuring: always 128 items, 32 concepts and 16 roles. --- */
+/* --- Measuring: always 128 items, or 512 in the larger store, 32 concepts and 16 roles. --- */
 
 enum {
     TIMED_CALLS = 100,               /* of each rule, if they are quick */
     APART = SALTREEVE_ROLES - 1,     /* the role that links nothing in some stores */
     EMPTY = SALTREEVE_CONCEPTS - 1,  /* the concept that no item is in */
-    PAIRS = SALTREEVE_ITEMS * SALTREEVE_ITEMS
+    PAIRS = SALTREEVE_ITEMS * SALTREEVE_ITEMS,
+    LARGE_PAIRS = SALTREEVE_LARGE_ITEMS * SALTREEVE_LARGE_ITEMS
 };
 
 static const double TIMED_SECONDS = 0.2;  /* after which a rule is called no more */
 
-typedef uint64_t timed_store[SALTREEVE_WORDS];
 typedef uint64_t timed_rule[SALTREEVE_RULE_WORDS];
 
-/* Makes each item the same as itself, or all items the same. */
-static void fill_same(timed_store w, int merged)
+/* The store that is measured: its length, its items and the words of an item row, and its words. */
+static struct {
+    size_t length, row;
+    uint64_t items;
+    uint64_t words[SALTREEVE_LARGE_WORDS];
+} measured_store = {SALTREEVE_WORDS, 2, SALTREEVE_ITEMS, {0}};
+
+/* The word that the concepts begin with; the roles, the items in concepts and the links follow. */
+static size_t concepts_at(void)
 {
-    for (uint64_t a = 0; a < SALTREEVE_ITEMS; a++) {
-        w[2 * a] = w[2 * a + 1] = merged ? UINT64_MAX : 0;
-        w[2 * a + a / 64] |= (uint64_t)1 << a % 64;
+    return measured_store.items * measured_store.row;
+}
+
+/* Makes each item the same as itself, or all items the same. */
+static void fill_same(int merged)
+{
+    for (uint64_t a = 0; a < measured_store.items; a++) {
+        uint64_t *row = measured_store.words + measured_store.row * a;
+        for (size_t i = 0; i < measured_store.row; i++)
+            row[i] = merged ? UINT64_MAX : 0;
+        row[a / 64] |= (uint64_t)1 << a % 64;
     }
 }
 
 /* Puts every item into every concept but the empty one, and each concept under itself only. */
-static void fill_concepts(timed_store w)
+static void fill_concepts(void)
 {
+    uint64_t *w = measured_store.words + concepts_at();
     for (uint64_t A = 0; A < SALTREEVE_CONCEPTS; A++)
-        w[256 + A] = (uint64_t)1 << A;
-    for (uint64_t a = 0; a < SALTREEVE_ITEMS; a++)
-        w[304 + a] = ((uint64_t)1 << EMPTY) - 1;
+        w[A] = (uint64_t)1 << A;
+    for (uint64_t a = 0; a < measured_store.items; a++)
+        w[48 + a] = ((uint64_t)1 << EMPTY) - 1;
 }
 
 /* Lets the roles below `linking` link all to all and be under each other both ways. */
-static void fill_roles(timed_store w, uint64_t linking)
+static void fill_roles(uint64_t linking)
 {
-    uint64_t ring = ((uint64_t)1 << linking) - 1;
+    uint64_t ring = ((uint64_t)1 << linking) - 1, *w = measured_store.words + concepts_at();
+    size_t links = measured_store.items * measured_store.row;
     for (uint64_t R = 0; R < SALTREEVE_ROLES; R++) {
-        w[288 + R] = R < linking ? ring | ring << 16 : (uint64_t)1 << R;
-        for (uint64_t i = 0; i < 256; i++)
-            w[432 + 256 * R + i] = R < linking ? UINT64_MAX : 0;
+        w[32 + R] = R < linking ? ring | ring << 16 : (uint64_t)1 << R;
+        for (uint64_t i = 0; i < links; i++)
+            w[48 + measured_store.items + links * R + i] = R < linking ? UINT64_MAX : 0;
     }
 }
 
@@ -167,7 +184,7 @@ static void nest(timed_rule rule, uint64_t depth, uint64_t count)
 /* in: 31 nested some of a last node. */
 static void in_nest(timed_rule rule, uint64_t last_kind)
 {
-    head(rule, SALTREEVE_IN, 0, SALTREEVE_ITEMS - 1, 0, 0);
+    head(rule, SALTREEVE_IN, 0, measured_store.items - 1, 0, 0);
     nest(rule, SALTREEVE_NODES - 1, 1);
     node(rule, last_kind, EMPTY, 0, 0, 0);
 }
@@ -287,7 +304,8 @@ static void irr_one(timed_rule rule)
     head(rule, SALTREEVE_IRR, 0, 0, 0, 0);
 }
 
-/* What is timed: the rule, the roles that link, the words of the out list, and the findings due. */
+/* What is timed: the rule, the roles that link, the words of the out list, and the findings due. A number of findings that
+   is one of all items or all pairs is so in the larger store too. */
 struct timing {
     const char *name;
     void (*build)(timed_rule);
@@ -316,8 +334,7 @@ static const struct timing TIMINGS[] = {
     {"rsub, all pairs found and listed", rsub_pair, 15, 2 * PAIRS, PAIRS, PAIRS},
 };
 
-/* The store and the rule that are measured, the words of the out list, and the findings due. */
-static timed_store measured_store;
+/* The rule that is measured, the words of the out list, and the findings due. */
 static timed_rule measured_rule;
 static size_t measured_room;
 static int64_t measured_due;
@@ -325,10 +342,10 @@ static int64_t measured_due;
 /* Makes one call; a result that is not due ends the program. */
 static void measured_call(void)
 {
-    static uint64_t out[2 * PAIRS];
+    static uint64_t out[2 * LARGE_PAIRS];
     alarm(CALL_SECONDS);
-    int64_t got = saltreeve_findings(measured_store, SALTREEVE_WORDS, SALTREEVE_ITEMS, SALTREEVE_CONCEPTS, SALTREEVE_ROLES,
-                                     measured_rule, SALTREEVE_RULE_WORDS, out, measured_room);
+    int64_t got = saltreeve_findings(measured_store.words, measured_store.length, measured_store.items, SALTREEVE_CONCEPTS,
+                                     SALTREEVE_ROLES, measured_rule, SALTREEVE_RULE_WORDS, out, measured_room);
     alarm(0);
     if (got != measured_due) {
         printf("expected %" PRId64 " findings, got %" PRId64 "\n", measured_due, got);
@@ -354,16 +371,25 @@ static void print_stack(void)
     printf("%8zu bytes of stack\n", stack_used(measured_call));
 }
 
+/* The number of findings in the store that is measured, where it is so many in the smaller one. */
+static int64_t due_there(int64_t due)
+{
+    if (due == SALTREEVE_ITEMS)
+        return (int64_t)measured_store.items;
+    return due == PAIRS ? (int64_t)(measured_store.items * measured_store.items) : due;
+}
+
 /* Measures one rule on a store of all items the same or all different, and prints one line. */
 static void measure_rule(const struct timing *timing, int merged, void (*print)(void))
 {
-    fill_same(measured_store, merged);
-    fill_concepts(measured_store);
-    fill_roles(measured_store, timing->linking);
+    fill_same(merged);
+    fill_concepts();
+    fill_roles(timing->linking);
     timing->build(measured_rule);
-    measured_room = timing->room;
-    measured_due = merged ? timing->due_merged : timing->due_different;
-    printf("%-13s %-46s", merged ? "all the same" : "all different", timing->name);
+    measured_room = timing->room == 0 ? 0 : 2 * measured_store.items * measured_store.items;
+    measured_due = due_there(merged ? timing->due_merged : timing->due_different);
+    printf("%s%-13s %-46s", measured_store.length == SALTREEVE_WORDS ? "" : "larger store, ", merged ? "all the same" : "all different",
+           timing->name);
     fflush(stdout);
     print();
 }
@@ -376,16 +402,27 @@ static void measure_all(void (*print)(void))
             measure_rule(&TIMINGS[i], merged, print);
 }
 
+/* Measures all rules on the smaller store, then on the larger. */
+static void measure_sizes(void (*print)(void))
+{
+    measure_all(print);
+    measured_store.length = SALTREEVE_LARGE_WORDS;
+    measured_store.row = 8;
+    measured_store.items = SALTREEVE_LARGE_ITEMS;
+    measure_all(print);
+}
+
 /* Prints how much stack each rule takes. */
 static void run_stacks(void)
 {
-    measure_all(print_stack);
+    alarm(0);  /* so that the first call is measured without what finding this function takes */
+    measure_sizes(print_stack);
 }
 
 /* Prints how long each rule takes. */
 static void run_times(void)
 {
-    measure_all(print_time);
+    measure_sizes(print_time);
 }
 
 /* Runs the commands or a measurement. */

@@ -53,13 +53,30 @@ enum fault {
     LENGTH_BEFORE_STORE,      /* 3 is given for a rule's length where 1 or 2 is due */
     LENGTH_AS_SIZE,           /* a rule of another length is refused by 1 */
     STOPS_THE_PROGRAM,        /* the first chain stops the program */
-    ENDS_THE_PROGRAM          /* the first chain ends the program as if all were well */
+    ENDS_THE_PROGRAM,         /* the first chain ends the program as if all were well */
+    LARGE_READ_AS_SMALL,      /* the larger store is read with rows of two words */
+    ROW_BY_ITEMS,             /* the larger store is read so if the items are few */
+    FIRST_128_ITEMS,          /* items from 128 on are linked to nothing */
+    FIRST_256_ITEMS,          /* items from 256 on are linked to nothing */
+    FIRST_448_ITEMS,          /* items from 448 on are linked to nothing */
+    FIRST_128_NAMES,          /* items from 128 on are the same as themselves only */
+    FIRST_128_MEMBERS,        /* items from 128 on are in no concept */
+    SECOND_OF_BYTES,          /* the second item of a finding is cut to 8 bits */
+    FIRST_OF_BYTES,           /* the first item of a finding is cut to 8 bits */
+    ITEMS_TO_384,             /* items from 384 on break no rule */
+    COUNTS_OF_FOUR_WORDS,     /* at least counts only what is among the first 256 items */
+    LEADS_BY_WORD,            /* at least counts an article once for each word of the row */
+    TOTAL_OF_16_BITS,         /* the total is cut to 16 bits */
+    LIST_OF_SMALL_STORE,      /* no more findings are listed than the smaller store can have */
+    COUNT_129_UNASKED,        /* the smaller store is not refused for 129 items */
+    COUNT_513_UNASKED,        /* the larger store is not refused for 513 items */
+    LARGE_REFUSED             /* the larger store is refused with 1 */
 };
 
 PLANTED(RULE_FAULT, NO_FAULT)
 
 enum { REFUSED_SIZE = -1, REFUSED_NOT_CLOSED = -2, REFUSED_MALFORMED = -3, REFUSED_NUMBER = -4 };
-enum { ITEMS = SALTREEVE_ITEMS };
+enum { ITEMS = SALTREEVE_LARGE_ITEMS, SMALL_ROW = 2, LARGE_ROW = 8 };
 
 /* Where findings go: the caller's list, and how many there were. */
 struct list {
@@ -73,26 +90,52 @@ typedef int table[SALTREEVE_NODES][ITEMS];
 
 /* --- What holds --- */
 
+/* The most items of the store. */
+static uint64_t most(const struct call *c)
+{
+    return 64 * c->row;
+}
+
+/* The word that the items in concepts begin with. */
+static size_t in_at(const struct call *c)
+{
+    return most(c) * c->row + 48;
+}
+
 /* Whether a is the same as b. */
 static int same(const struct call *c, uint64_t a, uint64_t b)
 {
-    return c->w[2 * (a % ITEMS) + b % ITEMS / 64] >> b % 64 & 1;
+    if (RULE_FAULT == FIRST_128_NAMES && (a >= 128 || b >= 128))
+        return a == b;
+    return c->w[c->row * (a % most(c)) + b % most(c) / 64] >> b % 64 & 1;
+}
+
+/* The items that links lead to, as some faults have it. */
+static uint64_t linked_items(void)
+{
+    switch (RULE_FAULT) {
+    case FIRST_64_ITEMS: return 64;
+    case FIRST_128_ITEMS: return 128;
+    case FIRST_256_ITEMS: return 256;
+    case FIRST_448_ITEMS: return 448;
+    default: return ITEMS;
+    }
 }
 
 /* Whether a role or its inverse links a to b. */
 static int linked(const struct call *c, uint64_t role, uint64_t inverse, uint64_t a, uint64_t b)
 {
     int turned = RULE_FAULT == INVERSE_FORWARDS ? 0 : RULE_FAULT == INVERSE_ONLY_1 ? inverse == 1 : inverse != 0;
-    uint64_t from = (turned ? b : a) % ITEMS, to = (turned ? a : b) % ITEMS;
-    if (RULE_FAULT == FIRST_64_ITEMS && to >= 64)
+    uint64_t from = (turned ? b : a) % most(c), to = (turned ? a : b) % most(c);
+    if (to >= linked_items())
         return 0;
-    return c->w[432 + 2 * (ITEMS * (role % SALTREEVE_ROLES) + from) + to / 64] >> to % 64 & 1;
+    return c->w[in_at(c) + most(c) + c->row * (most(c) * (role % SALTREEVE_ROLES) + from) + to / 64] >> to % 64 & 1;
 }
 
 /* Whether some item below b, itself counted, is the same as b. */
 static int counted_before(const struct call *c, const int *counted, uint64_t b)
 {
-    for (uint64_t earlier = 0; earlier < b; earlier++)
+    for (uint64_t earlier = RULE_FAULT == LEADS_BY_WORD ? b / 64 * 64 : 0; earlier < b; earlier++)
         if (counted[earlier] && same(c, earlier, b))
             return 1;
     return 0;
@@ -104,7 +147,8 @@ static int at_least_holds(const struct call *c, table holds, const uint64_t *nod
     int counted[ITEMS] = {0};
     uint64_t number = 0;
     for (uint64_t b = 0; b < c->items; b++) {
-        int fits = linked(c, node[2], node[3], a, b) && (RULE_FAULT == COUNTS_ALL_LINKED || holds[node[4]][b]);
+        int fits = linked(c, node[2], node[3], a, b) && (RULE_FAULT == COUNTS_ALL_LINKED || holds[node[4]][b])
+            && !(RULE_FAULT == COUNTS_OF_FOUR_WORDS && b >= 256);
         counted[b] = fits && (RULE_FAULT == COUNTS_NAMES || !counted_before(c, counted, b));
         number += counted[b];
     }
@@ -115,7 +159,10 @@ static int at_least_holds(const struct call *c, table holds, const uint64_t *nod
 static int node_holds(const struct call *c, table holds, const uint64_t *node, uint64_t a)
 {
     switch (node_kind(node)) {
-    case NAME: return !(RULE_FAULT == CONCEPT_31_EMPTY && node[1] == 31) && (c->w[304 + a] >> node[1] % 64 & 1);
+    case NAME:
+        if ((RULE_FAULT == CONCEPT_31_EMPTY && node[1] == 31) || (RULE_FAULT == FIRST_128_MEMBERS && a >= 128))
+            return 0;
+        return c->w[in_at(c) + a] >> node[1] % 64 & 1;
     case NOT: return !holds[node[1]][a];
     case AND:
         if (RULE_FAULT == AND_IS_OR)
@@ -142,6 +189,12 @@ static void fill_table(const struct call *c, table holds)
 static void found(struct list *list, uint64_t first, uint64_t second)
 {
     size_t at = 2 * (size_t)list->total++;
+    if (RULE_FAULT == LIST_OF_SMALL_STORE && at >= 2 * SALTREEVE_ITEMS * SALTREEVE_ITEMS)
+        return;
+    if (RULE_FAULT == FIRST_OF_BYTES)
+        first &= 0xFF;
+    if (RULE_FAULT == SECOND_OF_BYTES && second != SALTREEVE_NO_ITEM)
+        second &= 0xFF;
     if (RULE_FAULT == NONE_IS_0 && second == SALTREEVE_NO_ITEM)
         second = 0;
     if (at + 1 < list->length || (RULE_FAULT == WRITES_HALF_A_RECORD && at < list->length))
@@ -160,8 +213,8 @@ static void path_ends(const struct call *c, uint64_t x, int ends[ITEMS])
         int further[ITEMS] = {0};
         uint64_t inverse = RULE_FAULT == CHAIN_FOURTH_FORWARDS && i == 3 ? 0 : c->rule[3 + 2 * i];
         for (uint64_t b = 0; b < c->items; b++)
-            for (uint64_t y = 0; y < c->items; y++)
-                further[y] += ends[b] && linked(c, c->rule[2 + 2 * i], inverse, b, y);
+            for (uint64_t y = 0; ends[b] && y < c->items; y++)
+                further[y] += linked(c, c->rule[2 + 2 * i], inverse, b, y);
         for (uint64_t y = 0; y < c->items; y++)
             ends[y] = further[y];
     }
@@ -211,6 +264,8 @@ static void find_pairs_by_second(const struct call *c, struct list *list)
 static int item_breaks(const struct call *c, table holds, uint64_t x)
 {
     const uint64_t *r = c->rule;
+    if (RULE_FAULT == ITEMS_TO_384 && x >= 384)
+        return 0;
     if (rule_kind(r) == SUB)
         return holds[r[1]][x] && !holds[r[2]][x];
     return linked(c, r[1], r[2], x, x) == (rule_kind(r) == IRR);
@@ -254,7 +309,7 @@ static void find(const struct call *c, table holds, struct list *list)
         (RULE_FAULT == SECOND_BEFORE_FIRST ? find_pairs_by_second : find_pairs)(c, list);
         break;
     case IN:
-        if (!holds[r[1]][r[2] % ITEMS])
+        if (!holds[r[1]][r[2] % most(c)])
             found(list, r[2], SALTREEVE_NO_ITEM);
         break;
     case REL: case NOREL:
@@ -271,7 +326,13 @@ static void find(const struct call *c, table holds, struct list *list)
 /* The refusal that the store and its counts call for, or 0: asked by a statement that is never taken. */
 static int64_t store_refusal(const struct call *c, size_t length)
 {
-    int64_t refusal = saltreeve_add_under((uint64_t *)c->w, length, c->items, c->concepts, c->roles, c->concepts, 0);
+    uint64_t items = c->items;
+    if (RULE_FAULT == LARGE_REFUSED && length == SALTREEVE_LARGE_WORDS)
+        return REFUSED_SIZE;
+    if ((RULE_FAULT == COUNT_129_UNASKED && length == SALTREEVE_WORDS && items == 129)
+        || (RULE_FAULT == COUNT_513_UNASKED && length == SALTREEVE_LARGE_WORDS && items == 513))
+        items--;
+    int64_t refusal = saltreeve_add_under((uint64_t *)c->w, length, items, c->concepts, c->roles, c->concepts, 0);
     if (refusal == REFUSED_NUMBER || (RULE_FAULT == STORE_UNASKED && refusal == REFUSED_NOT_CLOSED))
         return 0;
     return refusal;
@@ -317,7 +378,7 @@ static void spoil(const struct call *c, const struct list *list)
     if (RULE_FAULT == WRITES_PAST_THE_LIST)
         list->out[list->length] = 0;
     if (RULE_FAULT == CHANGES_THE_STORE)
-        ((uint64_t *)c->w)[SALTREEVE_WORDS - 1] ^= 1;
+        ((uint64_t *)c->w)[in_at(c) + most(c) + 16 * most(c) * c->row - 1] ^= 1;
     if (RULE_FAULT == CHANGES_THE_RULE)
         ((uint64_t *)c->rule)[SALTREEVE_RULE_WORDS - 1] ^= 1;
 }
@@ -332,7 +393,10 @@ int64_t saltreeve_findings(const uint64_t *words, size_t length,
     uint64_t padded[SALTREEVE_RULE_WORDS];
     int taken = (RULE_FAULT == LONG_RULE_TAKEN && rule_length > SALTREEVE_RULE_WORDS)
         || (RULE_FAULT == SHORT_RULE_TAKEN && rule_length < SALTREEVE_RULE_WORDS);
-    struct call c = {words, items, concepts, roles, taken ? padded_rule(rule, rule_length, padded) : rule};
+    int large = length == SALTREEVE_LARGE_WORDS && RULE_FAULT != LARGE_READ_AS_SMALL
+        && !(RULE_FAULT == ROW_BY_ITEMS && items <= SALTREEVE_ITEMS);
+    struct call c = {words, items, concepts, roles, taken ? padded_rule(rule, rule_length, padded) : rule,
+                     large ? LARGE_ROW : SMALL_ROW};
     struct list list = {out, out_length, 0};
     int64_t refused = refusal(&c, length, taken || rule_length == SALTREEVE_RULE_WORDS);
     if (refused != 0) {
@@ -340,6 +404,8 @@ int64_t saltreeve_findings(const uint64_t *words, size_t length,
             out[0] = 0;
         return refused;
     }
+    c.items -= c.items == 129 && !large;  /* only by a fault; the last item is then passed over */
+    c.items -= c.items > ITEMS;
     fill_table(&c, holds);
     if (RULE_FAULT != ALWAYS_0)
         find(&c, holds, &list);
@@ -348,5 +414,7 @@ int64_t saltreeve_findings(const uint64_t *words, size_t length,
     spoil(&c, &list);
     if (RULE_FAULT == TOTAL_OF_THE_LISTED && 2 * (size_t)list.total > out_length)
         return (int64_t)(out_length / 2);
+    if (RULE_FAULT == TOTAL_OF_16_BITS)
+        return list.total & 0xFFFF;
     return RULE_FAULT == TOTAL_ONE_MORE ? list.total + 1 : list.total;
 }

@@ -56,11 +56,12 @@ enum {
     AT_LEAST = SALTREEVE_NODE_AT_LEAST, SELF = SALTREEVE_NODE_SELF, ONE = SALTREEVE_NODE_ONE
 };
 
-/* A call: the store if there is one, the counts, and the rule. */
+/* A call: the store if there is one, the counts, the rule, and the words of an item row of the store. */
 struct call {
     const uint64_t *w;
     uint64_t items, concepts, roles;
     const uint64_t *rule;
+    size_t row;
 };
 
 /* --- The words of a rule --- */

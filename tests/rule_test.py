@@ -17,16 +17,24 @@ import oracle
 import oracle_rules
 import rule_cases
 import rule_selftest
+import size_rules
 
 DEFAULT_RULES = 3200
 ROUNDS = 6
 CELLS_SHOWN = 60
+RULES_TO_ONE_LARGE = 80  # rules drawn over smaller stores for each larger store
+FULLEST_ROLES, DEEPEST = 16, 28
+
+
+# Writes the whole test: the smaller store, then the larger.
+def write_all(commands, seed, rules):
+    rule_cases.write_all(commands, seed, rules, ROUNDS)
+    size_rules.write_all(commands, seed, rules // RULES_TO_ONE_LARGE, FULLEST_ROLES, DEEPEST)
 
 
 # Sends the whole test to the driver.
 def run(driver, seed, rules):
-    return harness.run(driver, rule_cases.Commands,
-                       lambda commands: rule_cases.write_all(commands, seed, rules, ROUNDS))
+    return harness.run(driver, rule_cases.Commands, lambda commands: write_all(commands, seed, rules))
 
 
 # A field of a rule as text.

@@ -1,7 +1,8 @@
 """Shows that the tests of the command ./saltreeve can tell a faulty command from a sound one.
 
 Here are a stand-in for the command and one for its program, both plain, and edits that plant one fault each. The
-program takes `why`, a file and the words of a question, as the stand-in for the command hands them over.
+program takes `why`, a file and the words of a question, or `check` and a file, as the stand-in for the command hands
+them over.
 """
 
 import tempfile
@@ -19,6 +20,7 @@ trap '' PIPE
 usage() {
     cat <<'END'
   ./saltreeve why FILE [QUESTION ..]   says why a cell or a finding holds
+  ./saltreeve check FILE               checks a sheet of either edition
 
 A question is a statement, or a line that begins with finding.
 Exit status: 0 nothing found, 1 something found, 2 refused, 3 not done.
@@ -64,6 +66,7 @@ run() {
 case ${1-} in
 --help) help $(($# - 1)) ;;
 why) ;;
+check) [[ $# -le 2 || $2 == --help ]] || fail "one sheet at a time" ;;
 *) fail "there is no verb '${1-}' (./saltreeve --help says what there is)" ;;
 esac
 case ${2-} in
@@ -99,7 +102,7 @@ def reason(told, cell):
 
 # The text for a question.
 def answer(told, question):
-    due = oracle_why.due(told, ("text", question))
+    due = oracle_why.due(told, ("command", question))
     if due.refusal:
         return oracle_why.printed("refused", *due.refusal)
     return oracle_why.reason_text(told, due, reason(told, due.cell))
@@ -115,7 +118,10 @@ def answers(told):
 
 told = oracle_why.told_by(open(sys.argv[2], "rb").read())
 question = "\t".join(sys.argv[3:]).encode()
-sys.stdout.write(answer(told, question) if sys.argv[3:] else "".join(answers(told)))
+if sys.argv[1] == "check":
+    sys.stdout.write(told.outcome.text)
+else:
+    sys.stdout.write(answer(told, question) if sys.argv[3:] else "".join(answers(told)))
 """
 
 # The edits of the command: a name, a text in it, and what takes its place.
@@ -135,6 +141,10 @@ COMMAND_FAULTS = (
     ("no file is asked for", '[[ $# -ge 2 ]] || fail "the file of the sheet is missing"', "[[ $# -ge 2 ]] || fail what"),
     ("options are files", "-*) fail \"there is no option '$2'; a file of that name is ./$2\" ;;", ""),
     ("any verb is why", "*) fail \"there is no verb '${1-}' (./saltreeve --help says what there is)\" ;;", ""),
+    ("check takes more words", 'check) [[ $# -le 2 || $2 == --help ]] || fail "one sheet at a time" ;;', "check) ;;"),
+    ("there is no check", 'check) [[ $# -le 2 || $2 == --help ]] || fail "one sheet at a time" ;;\n', ""),
+    ("check is why", 'build\nrun "$@"', 'build\nrun why "${@:2}"'),
+    ("the help leaves out the check", "  ./saltreeve check FILE               checks a sheet of either edition\n", ""),
     ("help takes more words", '[[ $1 -eq 0 ]] || fail "--help stands alone"', ":"),
     ("help ends with 3", "status=0\n", "\n"),
     ("help builds the program", "help() {", "help() {\n    build"),
@@ -166,6 +176,13 @@ PROGRAM_FAULTS = (
     ("the total comes twice", '"".join(answers(told))', '"".join(answers(told)) + "total\\t0\\n"'),
     ("the first finding alone is explained", '"".join(answers(told))', '"".join(list(answers(told))[:2])'),
     ("words are joined by blanks", '"\\t".join(sys.argv[3:])', '" ".join(sys.argv[3:])'),
+    ("check gives reasons", 'sys.argv[1] == "check"', 'sys.argv[1] == "Check"'),
+    ("check has the smaller store", "told.outcome.text)\n", "told.outcome_in(4528).text)\n"),
+    ("check has edition 1 for few items", "told.outcome.text)\n",
+     "told.outcome.text if told.outcome.counts.items > 128 or told.size.row == 2 else told.outcome_in(4528).text)\n"),
+    ("check has the larger limit for edition 1", "told.outcome.text)\n", "told.outcome.text.replace('130\\t18', '0\\t1'))\n"),
+    ("why has the smaller store", "told = oracle_why.told_by(open(sys.argv[2], \"rb\").read())",
+     "told = oracle_why.told_by(open(sys.argv[2], \"rb\").read().replace(b'sheet\\t2\\n', b'sheet\\t1\\n', 1))"),
     ("an empty question is none", "if sys.argv[3:] else", "if question else"),
 )
 

@@ -22,6 +22,8 @@ sys.dont_write_bytecode = True  # keeps the folder of the tests free of build pr
 import harness
 import oracle_why
 import saltreeve_selftest
+import size_sheets
+import size_why
 import why_cases
 
 TOOLS = ("awk", "bash", "cat", "chmod", "cp", "dirname", "env", "flock", "grep", "mkdir", "python3", "readlink",
@@ -91,6 +93,10 @@ class Place:
     # The command on the sheet "my sheet".
     def why(self, *question, **more):
         return self.run("why", "my sheet", *question, **more)
+
+    # The command's check of the sheet "my sheet".
+    def check(self, *words, **more):
+        return self.run("check", "my sheet", *words, **more)
 
     # The words that the program was given.
     def words(self):
@@ -170,6 +176,57 @@ def test_not_built(place):
     assert "rt is missing" in refused(place.why(*QUESTION))
 
 
+# The check of a sheet: the status for each last line, and the text passed on as it is.
+def test_check_status(place):
+    for text, status in ((b"total\t0\n", 0), (FOUND, 1), (b"finding\t9\ta\ntotal\t1\n", 1), (b"total\t10\n", 1),
+                         (b"total\t16777216\n", 1), (b"refused\t0\t9\n", 2), (b"refused\t1\t11\n", 2), (b"", 3), (b"what\n", 3)):
+        (place.root / "canned").write_bytes(text)
+        ended = place.check()
+        assert ended.status == status and ended.out == (b"" if status == 3 else text), (text, ended)
+        assert status != 3 or "saltreeve: " in ended.err, ended
+
+
+# The check hands over the sheet's bytes unchanged, wherever it is called from, and tells the program its verb.
+def test_check_bytes(place):
+    (place.temporary / "link").symlink_to(place.root / "saltreeve")
+    for call in (dict(), dict(command="./link"), dict(command="../copy/saltreeve")):
+        assert place.check(**call)[:2] == (1, FOUND) and place.sheet() == EVERY_BYTE, call
+        assert place.words()[:1] == ["check"] and place.question() == "", place.words()
+    ended = place.run("check", str(place.temporary / "my sheet"), folder=place.root / "docs")
+    assert ended[:2] == (1, FOUND) and place.sheet() == EVERY_BYTE, ended
+    place.why(*QUESTION)
+    assert place.words()[:1] == ["why"], place.words()
+
+
+# Each misuse of the check has its message; what cannot be built, read or written ends with 3.
+def test_check_misuse(place):
+    for words, said in ((("check",), "file"), (("check", "-x"), "no option '-x'"), (("check", "nothing"), "no file 'nothing'"),
+                        (("check", ""), "no file ''"), (("check", "."), "a folder"), (("check", "--help", "me"), "--help"),
+                        (("check", "my sheet", "my sheet"), "one sheet at a time"), (("check", "my sheet", *QUESTION), "one sheet at a time"),
+                        (("Check", "my sheet"), "Check")):
+        assert said in refused(place.run(*words)), words
+    assert not (place.root / "target").exists()
+    with open("/dev/full", "wb") as full:
+        assert "could not be written" in refused(place.check(stdout=full))
+    with harness.unread() as pipe:
+        assert "could not be written" in refused(place.check(stdout=pipe))
+    ended = place.check(stdin=None, preexec_fn=lambda: os.close(0))
+    assert ended[:2] == (1, FOUND) or refused(ended), ended
+    (place.root / "crash").touch()
+    assert "could not be run" in refused(place.check())
+    (place.root / "broken").touch()
+    assert "not built" in refused(place.check())
+
+
+# The help names the check and its exit status; it needs no program.
+def test_check_help(place):
+    for words in (("--help",), ("check", "--help")):
+        ended = place.run(*words)
+        assert ended.status == 0 and ended.err == "" and "./saltreeve check FILE" in ended.out.decode(), ended
+    assert all(f" {status} " in ended.out.decode() for status in range(4)), ended
+    assert not (place.root / "target").exists()
+
+
 # Each misuse has its message, which names what is wrong.
 def test_misuse(place):
     for words, said in (((), "--help"), (("what",), "what"), (("",), "--help"), (("-x",), "-x"), (("why",), "file"),
@@ -220,7 +277,7 @@ def test_help(place):
 def sheets():
     found = [path.read_bytes() for path in sorted((harness.ROOT / "examples").glob("*.sheet"))]
     found += [case.sheet for case in list(why_cases.damaged(1))[:1]]
-    return found + [b"", b"sheet\t1\nitem\t3-Mar\n", b"sheet\t1\nx\n", b"sheet\t1\n" + b"\n" * 40000]
+    return found + [size_sheets.turned(found[0]), b"", b"sheet\t1\nitem\t3-Mar\n", b"sheet\t1\nx\n", b"sheet\t1\n" + b"\n" * 40000]
 
 
 # Some questions about a sheet, each as a line.
@@ -236,7 +293,7 @@ def wrong_answer(told, question, text):
     if question is None:
         alone = 2 if told.refusal() else 1 if told.outcome.findings else 0
         return oracle_why.wrong_findings_text(told, text), alone
-    due = oracle_why.due(told, ("text", question))
+    due = oracle_why.due(told, ("command", question))
     return oracle_why.wrong_text(told, due, text), 2 if due.refusal else 1
 
 
@@ -251,8 +308,44 @@ def test_answers(place):
             assert not wrong and ended.status == status, (sheet[:2000], question, ended, wrong, status)
 
 
+# Sheets of both editions for the check: whole, refused, at the limits of items, with many findings, and the longest text.
+def checked_sheets():
+    at_limits = [f"items-{items}" for items in (128, 129, 512, 513)] + ["items-1-200", "items-2-129"]
+    chosen = [case.sheet for number, case in enumerate(size_sheets.all_cases(1, 0)) if number % 25 == 0 or case.name in at_limits]
+    with_reason = why_cases.point_sheet("in a C\nrule sub C D")
+    return [with_reason, size_sheets.turned(with_reason), *sheets()[::2], *chosen, size_sheets.catalogue(1)]
+
+
+# Every check prints what is due with the store that the first line asks for, and ends with the status for it.
+def test_checks(place):
+    for sheet in checked_sheets():
+        (place.temporary / "my sheet").write_bytes(sheet)
+        outcome, ended = oracle_why.told_by(sheet).outcome, place.check()
+        status = 2 if outcome.number else 1 if outcome.findings else 0
+        assert ended[:2] == (status, outcome.text.encode("latin-1")), (sheet[:2000], ended, outcome.text)
+
+
+# The longest text there is, that of a sheet of edition 2.
+def test_longest(place):
+    sheet, text, _ = size_sheets.longest()
+    (place.temporary / "my sheet").write_bytes(sheet)
+    assert place.check()[:2] == (1, text.encode()), "the longest text is cut, or is another"
+
+
+# Reasons of more than 128 lines, of a sheet of edition 2.
+def test_long_reasons(place):
+    case, = size_why.chains(1, (131,))
+    told = oracle_why.told_by(case.sheet)
+    (place.temporary / "my sheet").write_bytes(case.sheet)
+    for question in [question[1] for question in case.questions if question[0] == "text"][:4]:
+        ended = place.why(question)
+        wrong, status = wrong_answer(told, question, ended.out)
+        assert not wrong and ended.status == status, (question, ended, wrong, status)
+
+
 TESTS = (test_status, test_bytes, test_question, test_building, test_not_built, test_misuse, test_closed_input, test_output,
-         test_help)
+         test_help, test_check_status, test_check_bytes, test_check_misuse, test_check_help)
+WITH_PROGRAM = (test_long_reasons, test_checks, test_answers)
 
 
 # Runs a test in a place of its own; nothing temporary may be left.
@@ -269,7 +362,8 @@ def failure(command, program):
     try:
         for test in TESTS:
             run_in_place(test, None, command)
-        run_in_place(test_answers, program, command)
+        for test in WITH_PROGRAM:
+            run_in_place(test, program, command)
     except (AssertionError, subprocess.TimeoutExpired) as wrong:
         return str(wrong) or "a test fails"
     return None
@@ -281,9 +375,10 @@ def main():
         return saltreeve_selftest.run(failure)
     for test in TESTS:
         run_in_place(test)
-    for program in sys.argv[1:2]:
-        run_in_place(test_answers, program)
-    print(f"saltreeve: {len(TESTS) + len(sys.argv[1:2])} tests of the command pass")
+    with_program = [*WITH_PROGRAM, test_longest] if sys.argv[1:2] else []
+    for test in with_program:
+        run_in_place(test, sys.argv[1])
+    print(f"saltreeve: {len(TESTS) + len(with_program)} tests of the command pass")
     return 0
 
 

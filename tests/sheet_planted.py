@@ -413,7 +413,7 @@ def refused_with_findings(sheet, line, faults, words):
 
 # A store left fresh, or as what the lines gave, whatever the lines were.
 def always_given(sheet):
-    return tuple(oracle.words_of(sheets.cells_after(sheet)))
+    return sheets.words_in(sheet, sheets.cells_after(sheet))
 
 
 # A store left all zero.
@@ -437,8 +437,8 @@ def cleared_by_9(sheet, line, faults, words):
 
 
 # A fresh store only where there are statements or rules.
-def fresh_if_used(cells):
-    words = words_sound(cells)
+def fresh_if_used(sheet, cells):
+    words = words_sound(sheet, cells)
     plain = oracle.fresh(words, oracle.Counts(len(cells.same), len(cells.under), len(cells.links)))[1]
     return sheets.ALL_ZERO if words == tuple(plain) else words
 
@@ -485,6 +485,8 @@ def line_fault_table():
         "a header with a blank is taken": ("is_header", lambda line: line in ("sheet\t1", "sheet 1")),
         "a header with a leading 0 is taken": ("is_header", lambda line: line in ("sheet\t1", "sheet\t01")),
         "a header with a tab at its end is taken": ("is_header", lambda line: line in ("sheet\t1", "sheet\t1\t")),
+        "edition 2 is taken": ("is_header", lambda line: line in ("sheet\t1", "sheet\t2")),
+        "edition 2 is taken with any store": ("is_second_header", lambda size, line: line == sheets.HEADER_2),
         "an empty sheet is taken": ("numbered_lines", lambda sheet: list(enumerate(lines_sound(sheet), 1))),
         "unknown rule words have too few fields": ("fields_faults", rule_word_passed(lambda word: True)),
         "rule alone is an unknown word": ("word_unknown", rule_alone_unknown),

@@ -9,6 +9,7 @@
 #ifndef SHEET_REFERENCE_H
 #define SHEET_REFERENCE_H
 
+#include "edition_reference.h"
 #include "planted.h"
 #include "saltreeve.h"
 
@@ -34,7 +35,7 @@ PLANTED(SHEET_FAULT, NO_SHEET_FAULT)
 
 enum {
     SHEET_BYTES = 32768, LINE_BYTES = 512, NAME_BYTES = 24, MOST_FIELDS = LINE_BYTES + 1, MOST_RULES = 64,
-    MOST_PRINTED = 200, PAIRS = SALTREEVE_ITEMS * SALTREEVE_ITEMS
+    MOST_PRINTED = 200, PAIRS = SALTREEVE_LARGE_ITEMS * SALTREEVE_LARGE_ITEMS
 };
 
 /* A piece of the sheet: a line, a field or a name. */
@@ -50,7 +51,7 @@ enum place { WORD, OPERATOR, NEW_NAME, CONCEPT, ITEM, ROLE, PLAIN_ROLE, COUNT, C
 struct table {
     const char *word;
     size_t most, count;
-    struct piece names[SALTREEVE_ITEMS];
+    struct piece names[SALTREEVE_LARGE_ITEMS + 1];
 };
 
 /* A rule and the line that it stands on. */
@@ -62,9 +63,10 @@ struct kept {
 /* A sheet as far as it has been read. */
 struct sheet {
     struct table concepts, roles, items;
-    int section;
+    int section, edition;
     size_t statements;
-    uint64_t words[SALTREEVE_WORDS];
+    size_t length;  /* of the store that is lent */
+    uint64_t words[SALTREEVE_LARGE_WORDS];
     struct kept rules[MOST_RULES];
     size_t rule_count;
 };
@@ -390,13 +392,21 @@ static int fields_refusal(struct sheet *sheet, struct line *line)
     return first_word(line)->number == 0 ? declaration_refusal(sheet, line) : use_refusal(sheet, line);
 }
 
+/* Notes the edition, 0 if there is none, and with it the most items; gives the edition. */
+static int begin_edition(struct sheet *sheet, int edition)
+{
+    sheet->edition = edition;
+    sheet->items.most = most_items_of(edition, sheet->length);
+    return edition;
+}
+
 /* The number that a line is refused by, or 0; `line` is its fields where it is not empty. */
 static int line_refusal(struct sheet *sheet, struct piece piece, uint64_t number, struct line *line)
 {
     if (piece.length > LINE_BYTES || (SHEET_FAULT != BAD_BYTES_LAST && bad_bytes(piece)))
         return 10;
     if (number == 1)
-        return is(piece, "sheet\t1") ? 0 : 11;
+        return begin_edition(sheet, edition_of(piece.at, piece.length, sheet->length)) ? 0 : header_number(piece.at, piece.length);
     part(line, piece);
     int refused = piece.length == 0 ? 0 : fields_refusal(sheet, line);
     return refused == 0 && bad_bytes(piece) ? 10 : refused;
@@ -557,26 +567,27 @@ static void add_statement(struct sheet *sheet, const struct line *line)
     uint64_t i = sheet->items.count, c = sheet->concepts.count, r = sheet->roles.count;
     uint64_t a = number_at(sheet, line, 1), b = number_at(sheet, line, 2);
     uint64_t *w = sheet->words;
+    size_t length = sheet->length;
     struct piece word = line->fields[0];
     sheet->statements++;
     if (is(word, "in"))
-        saltreeve_add_in(w, SALTREEVE_WORDS, i, c, r, a, b);
+        saltreeve_add_in(w, length, i, c, r, a, b);
     else if (is(word, "rel"))
-        saltreeve_add_link(w, SALTREEVE_WORDS, i, c, r, a, b, number_at(sheet, line, 3));
+        saltreeve_add_link(w, length, i, c, r, a, b, number_at(sheet, line, 3));
     else if (is(word, "same"))
-        saltreeve_add_same(w, SALTREEVE_WORDS, i, c, r, a, b);
+        saltreeve_add_same(w, length, i, c, r, a, b);
     else if (is(word, "under"))
-        saltreeve_add_under(w, SALTREEVE_WORDS, i, c, r, a, b);
+        saltreeve_add_under(w, length, i, c, r, a, b);
     else {
         int left = SHEET_FAULT != LEFT_INVERSE_PASSED && is_inverse(line->fields[1]);
-        saltreeve_add_role_under(w, SALTREEVE_WORDS, i, c, r, a, b, left != is_inverse(line->fields[2]));
+        saltreeve_add_role_under(w, length, i, c, r, a, b, left != is_inverse(line->fields[2]));
     }
 }
 
 /* Makes the store fresh. */
 static void make_fresh(struct sheet *sheet)
 {
-    saltreeve_fresh(sheet->words, SALTREEVE_WORDS, sheet->items.count, sheet->concepts.count, sheet->roles.count);
+    saltreeve_fresh(sheet->words, sheet->length, sheet->items.count, sheet->concepts.count, sheet->roles.count);
 }
 
 /* Takes in a line that is not refused. */
@@ -629,28 +640,33 @@ static uint64_t read_lines(struct sheet *sheet, const uint8_t *bytes, size_t len
     return 0;
 }
 
-/* Forgets the sheet before; the store is all zero. */
-static void begin(struct sheet *sheet)
+/* Forgets the sheet before; the store, of a right length, is all zero. */
+static void begin(struct sheet *sheet, size_t length)
 {
     size_t kept = SHEET_FAULT == KEEPS_RULES && sheet->rule_count < MOST_RULES ? sheet->rule_count : 0;
     sheet->concepts = (struct table){"concept", SALTREEVE_CONCEPTS, 0, {{NULL, 0}}};
     sheet->roles = (struct table){"role", SALTREEVE_ROLES, 0, {{NULL, 0}}};
     sheet->items = (struct table){"item", SALTREEVE_ITEMS, 0, {{NULL, 0}}};
-    sheet->section = 0;
+    sheet->section = sheet->edition = 0;
     sheet->statements = 0;
+    sheet->length = length;
     sheet->rule_count = kept;
-    memset(sheet->words, 0, sizeof sheet->words);
+    memset(sheet->words, 0, length * sizeof *sheet->words);
 }
 
-/* Reads a sheet; the number that it is refused by, or 0, and the line. */
-static uint64_t read_sheet(struct sheet *sheet, const uint8_t *bytes, size_t length, uint64_t *line)
+/* Reads a sheet with a store of a right length; the number that it is refused by, or 0, and the line. */
+static uint64_t read_sheet(struct sheet *sheet, const uint8_t *bytes, size_t length, size_t store, uint64_t *line)
 {
     uint64_t refused = 9;
     *line = 0;
-    begin(sheet);
+    begin(sheet, store);
     if (length <= SHEET_BYTES)
         refused = read_lines(sheet, bytes, length, line);
-    if (refused == 0 && sheet->section == 0)
+    if (refused == 0 && EDITION_FAULT == EDITION_2_NEEDS_129 && sheet->edition == 2 && sheet->items.count <= SALTREEVE_ITEMS)
+        refused = 18;
+    if (EDITION_FAULT == EDITION_2_AT_LINE_0 && refused == 11 && length >= 7 && memcmp(bytes, "sheet\t2", 7) == 0)
+        *line = 0;
+    if ((refused == 0 || (EDITION_FAULT == LARGE_NOT_ZERO && store == SALTREEVE_LARGE_WORDS)) && sheet->section == 0)
         make_fresh(sheet);
     *line -= SHEET_FAULT == LINES_FROM_0 && *line > 0;
     return refused;
@@ -659,7 +675,7 @@ static uint64_t read_sheet(struct sheet *sheet, const uint8_t *bytes, size_t len
 /* Finds what breaks a rule of the sheet: so many pairs in `out`, which has room for all. */
 static int64_t judge(const struct sheet *sheet, const struct kept *kept, uint64_t *out)
 {
-    return saltreeve_findings(sheet->words, SALTREEVE_WORDS, sheet->items.count, sheet->concepts.count, sheet->roles.count,
+    return saltreeve_findings(sheet->words, sheet->length, sheet->items.count, sheet->concepts.count, sheet->roles.count,
                               kept->words, SALTREEVE_RULE_WORDS, out, 2 * PAIRS);
 }
 

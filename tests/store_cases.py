@@ -23,10 +23,13 @@ class Commands:
         self.write = write
         self.words = []
         self.calls = 0
-        self.results = {"accepted": 0, -1: 0, -2: 0, -4: 0}
+        self.results = {"accepted": 0, -1: 0, -2: 0, -4: 0, -26: 0}
         self.sequences = 0
         self.reordered = 0
         self.damaged = 0
+        self.lists = 0
+        self.conversions = 0
+        self.target = []
 
     # Begins a part of the test and gives its random numbers.
     def part(self, seed, name, number):
@@ -50,6 +53,33 @@ class Commands:
     # Adds a statement.
     def add(self, counts, statement):
         return self.expect(statement, counts, oracle.add(self.words, counts, statement))
+
+    # Adds a list of statements, four words each, with so many places for answers; gives the answers due.
+    def add_all(self, counts, listed, places):
+        answers, after = oracle.add_all(self.words, counts, listed, places)
+        before, self.words = self.words, after
+        numbers = (*counts, len(listed), *listed, places, len(answers), *answers)
+        self.write(f"all {' '.join(str(number) for number in numbers)}{changed_words(before, after)}\n")
+        self.calls += 1
+        self.lists += 1
+        return answers
+
+    # Moves the store to a target of so many words, which are garbage before; gives the result due.
+    def convert(self, counts, length):
+        result, target = oracle.convert(self.words, counts, length)
+        self.conversions += 1
+        due = changed_words([0] * length, target) if target is not None else " 0"
+        numbers = (*counts, length, self.conversions, result)
+        self.write(f"convert {' '.join(str(number) for number in numbers)}{due}\n")
+        self.calls += 1
+        self.results[result if result < 0 else "accepted"] += 1
+        self.target = target
+        return result
+
+    # Lends the target of the last conversion as the store.
+    def turn(self):
+        self.words = self.target
+        self.write("turn\n")
 
     # Writes a call with what is due after it.
     def expect(self, statement, counts, due):
@@ -282,6 +312,18 @@ def filled(counts, statements):
         if oracle.declared(statement, counts):
             cells.set(statement)
     oracle.add_what_follows(cells)
+    return cells
+
+
+# The cells of a store in which every role but those from `apart` on links all to all.
+def all_linked(counts, merged, apart):
+    cells = oracle.Cells(counts)
+    everything = 2**counts.items - 1
+    cells.same = [everything if merged else 1 << a for a in range(counts.items)]
+    cells.under = [1 << A for A in range(counts.concepts)]
+    cells.role_under = [2**apart - 1 if R < apart else 1 << R for R in range(counts.roles)]
+    cells.role_under_inverse = [2**apart - 1 if R < apart else 0 for R in range(counts.roles)]
+    cells.links = [[everything if R < apart else 0] * counts.items for R in range(counts.roles)]
     return cells
 
 

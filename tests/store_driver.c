@@ -13,6 +13,15 @@
  *   call KIND ITEMS CONCEPTS ROLES X Y Z RESULT LIST
  *                         makes a call with the numbers X, Y and Z (0 where it has
  *                         fewer); RESULT is due, and LIST has the words that change
+ *   all ITEMS CONCEPTS ROLES STATEMENTS PLACES ANSWERS LIST
+ *                         adds a list of statements. STATEMENTS is a number and so many
+ *                         words; there are PLACES for answers; ANSWERS is a number,
+ *                         which is the result due, and so many answers that are due
+ *   convert ITEMS CONCEPTS ROLES LENGTH NUMBER RESULT LIST
+ *                         moves the store to a target of LENGTH words of garbage, of
+ *                         which there is other for each NUMBER; RESULT is due. If it is no
+ *                         refusal, the target is due to be 0 but for the words listed
+ *   turn                  lends the target of the last conversion as the store
  *   keep                  remembers the store and the sum of the counts since fresh or load
  *   compare               asks that both are as remembered
  *
@@ -22,13 +31,12 @@
  */
 #define _POSIX_C_SOURCE 199309L
 
-#include "commands.h"
+#include "calls.h"
 #include "saltreeve.h"
 
 #include <time.h>
-#include <unistd.h>
 
-enum { MOST_WORDS = 2 * SALTREEVE_WORDS };  /* the longest store that can be loaded */
+enum { MOST_WORDS = SALTREEVE_WORDS + SALTREEVE_LARGE_WORDS };  /* the longest store that can be loaded */
 
 /* One call: which function, the counts, and up to three numbers. */
 struct call {
@@ -45,6 +53,7 @@ struct run {
     int64_t sum;      /* of the counts since the store was fresh or loaded */
     uint64_t kept[MOST_WORDS];
     int64_t kept_sum;
+    struct lent target, statements, answers;
     struct place place;
 };
 
@@ -111,7 +120,7 @@ static void print_call(const struct run *run, const struct call *call)
 }
 
 /* Whether the guard words are as they were. */
-static int guards_stand(const struct run *run)
+static int store_guards_stand(const struct run *run)
 {
     for (size_t i = 0; i < GUARD_WORDS; i++)
         if (run->block[i] != GUARD || run->words[run->length + i] != GUARD)
@@ -119,22 +128,56 @@ static int guards_stand(const struct run *run)
     return 1;
 }
 
-/* Ends the program if the result or a word is not what it should be. */
-static void compare_call(const struct run *run, const struct call *call, int64_t expected, int64_t got)
+/* Whether all words of the store, and those around them, are what they should be. */
+static int store_as_due(const struct run *run)
 {
-    int words_agree = memcmp(run->words, run->expected, run->length * sizeof *run->words) == 0;
-    if (expected == got && words_agree && guards_stand(run))
-        return;
-    print_call(run, call);
+    return memcmp(run->words, run->expected, run->length * sizeof *run->words) == 0 && store_guards_stand(run);
+}
+
+/* Says what was due of the result and of the store. */
+static void print_store(const struct run *run, int64_t expected, int64_t got)
+{
     printf("result: expected %" PRId64 ", got %" PRId64 "\n", expected, got);
     for (size_t i = 0; i < run->length; i++)
         if (run->words[i] != run->expected[i]) {
             printf("word %zu: expected %016" PRIx64 ", got %016" PRIx64 "\n", i, run->expected[i], run->words[i]);
             break;
         }
-    if (!guards_stand(run))
+    if (!store_guards_stand(run))
         printf("a word outside the store was changed\n");
+}
+
+/* Ends the program if the result or a word is not what it should be. */
+static void compare_single(const struct run *run, const struct call *call, int64_t expected, int64_t got)
+{
+    if (expected == got && store_as_due(run))
+        return;
+    print_call(run, call);
+    print_store(run, expected, got);
     exit(1);
+}
+
+/* Ends the program if the result, a word of the store or of another list lent is not what it should be. */
+static void compare_lists(const struct run *run, const struct call *call, int64_t expected, int64_t got,
+                          const struct named *lists, size_t count)
+{
+    int right = expected == got && store_as_due(run);
+    for (size_t i = 0; i < count; i++)
+        right = right && as_due(lists[i].lent);
+    if (right)
+        return;
+    print_call(run, call);
+    print_store(run, expected, got);
+    for (size_t i = 0; i < count; i++)
+        print_entries(lists[i].name, lists[i].lent);
+    exit(1);
+}
+
+/* Notes that the next call comes. */
+static void count_call(struct run *run)
+{
+    run->place.calls++;
+    run->place.part_calls++;
 }
 
 /* Carries out a call and compares. */
@@ -143,16 +186,29 @@ static void do_call(struct run *run)
     struct call call = read_call();
     int64_t expected = read_result();
     read_list(run);
-    run->place.calls++;
-    run->place.part_calls++;
+    count_call(run);
     alarm(CALL_SECONDS);
     int64_t got = make_call(&call, run->words, run->length);
     alarm(0);
-    compare_call(run, &call, expected, got);
+    compare_single(run, &call, expected, got);
     if (strcmp(call.kind, "fresh") == 0 && got >= 0)
         run->sum = 0;
     if (got > 0)
         run->sum += got;
+}
+
+/* Lends so many words with what is expected of them as a new store. */
+static void lend_store(struct run *run)
+{
+    run->sum = 0;
+    free(run->block);
+    run->block = malloc((run->length + 2 * GUARD_WORDS) * sizeof *run->block);
+    if (run->block == NULL)
+        stop("no memory");
+    run->words = run->block + GUARD_WORDS;
+    for (size_t i = 0; i < GUARD_WORDS; i++)
+        run->block[i] = run->words[run->length + i] = GUARD;
+    memcpy(run->words, run->expected, run->length * sizeof *run->words);
 }
 
 /* Lends a new store. */
@@ -163,15 +219,87 @@ static void do_load(struct run *run)
         stop("the store is too long");
     memset(run->expected, 0, sizeof run->expected);
     read_list(run);
-    run->sum = 0;
-    free(run->block);
-    run->block = malloc((run->length + 2 * GUARD_WORDS) * sizeof *run->block);
-    if (run->block == NULL)
-        stop("no memory");
-    run->words = run->block + GUARD_WORDS;
-    for (size_t i = 0; i < GUARD_WORDS; i++)
-        run->block[i] = run->words[run->length + i] = GUARD;
-    memcpy(run->words, run->expected, run->length * sizeof *run->words);
+    lend_store(run);
+}
+
+/* Reads the counts of a call of another kind. */
+static struct call read_counts(const char *kind)
+{
+    struct call call = {"", 0, 0, 0, 0, 0, 0};
+    strcpy(call.kind, kind);
+    call.items = read_number();
+    call.concepts = read_number();
+    call.roles = read_number();
+    return call;
+}
+
+/* Reads a list of statements and the answers that are due to them; gives the number of these. */
+static int64_t read_statements(struct run *run)
+{
+    lend(&run->statements, sizeof(uint64_t), read_number(), 0);
+    for (size_t i = 0; i < run->statements.length; i++)
+        set_due(&run->statements, i, read_number());
+    fill(&run->statements);
+    lend(&run->answers, sizeof(int64_t), read_number(), GUARD);
+    int64_t due = read_result();
+    for (int64_t i = 0; i < due; i++) {
+        int64_t answer = read_result();
+        if ((size_t)i >= run->answers.length)
+            stop("there is no place for an answer");
+        set_due(&run->answers, (size_t)i, (uint64_t)answer);
+        run->sum += answer > 0 ? answer : 0;
+    }
+    return due;
+}
+
+/* Adds a list of statements and compares. */
+static void do_all(struct run *run)
+{
+    const struct named lists[] = {{"statements", &run->statements}, {"answers", &run->answers}};
+    struct call call = read_counts("all");
+    int64_t due = read_statements(run);
+    read_list(run);
+    count_call(run);
+    alarm(CALL_SECONDS);
+    int64_t got = saltreeve_add_all(run->words, run->length, call.items, call.concepts, call.roles,
+                                    run->statements.entries, run->statements.length,
+                                    run->answers.entries, run->answers.length);
+    alarm(0);
+    compare_lists(run, &call, due, got, lists, COUNT(lists));
+}
+
+/* Moves the store to a target and compares. */
+static void do_convert(struct run *run)
+{
+    const struct named lists[] = {{"target", &run->target}};
+    struct call call = read_counts("convert");
+    size_t length = read_number();
+    lend_garbage(&run->target, read_number(), length);
+    int64_t due = read_result();
+    if (due >= 0)
+        memset(run->target.due, 0, length * sizeof(uint64_t));
+    for (uint64_t left = read_number(); left > 0; left--) {
+        uint64_t index = read_number();
+        if (index >= length)
+            stop("an index is too large");
+        set_due(&run->target, index, read_number());
+    }
+    call.x = length;
+    count_call(run);
+    alarm(CALL_SECONDS);
+    int64_t got = saltreeve_convert(run->words, run->length, call.items, call.concepts, call.roles,
+                                    run->target.entries, run->target.length);
+    alarm(0);
+    compare_lists(run, &call, due, got, lists, COUNT(lists));
+}
+
+/* Lends the target of the last conversion as the store, as the library left it. */
+static void do_turn(struct run *run)
+{
+    run->length = run->target.length;
+    memset(run->expected, 0, sizeof run->expected);
+    memcpy(run->expected, run->target.entries, run->length * sizeof *run->expected);
+    lend_store(run);
 }
 
 /* Turns over some bits of one word. */
@@ -216,6 +344,12 @@ static void run_commands(void)
             do_flip(&run);
         else if (strcmp(word, "call") == 0)
             do_call(&run);
+        else if (strcmp(word, "all") == 0)
+            do_all(&run);
+        else if (strcmp(word, "convert") == 0)
+            do_convert(&run);
+        else if (strcmp(word, "turn") == 0)
+            do_turn(&run);
         else if (strcmp(word, "keep") == 0)
             do_keep(&run);
         else if (strcmp(word, "compare") == 0)
@@ -224,6 +358,9 @@ static void run_commands(void)
             stop("unknown command");
     }
     free(run.block);
+    take_back(&run.target);
+    take_back(&run.statements);
+    take_back(&run.answers);
     printf("done %" PRIu64 "\n", run.place.calls);
 }
 
@@ -399,6 +536,204 @@ static void time_largest(const char *kind)
     print_times("largest change", kind, &times);
 }
 
+/* --- Timing of the larger store: always 512 items, 32 concepts and 16 roles. --- */
+
+enum { LARGE_CALLS = 50, LARGE_ROW = 8 };
+
+static const double LARGE_SECONDS = 0.4;  /* after which a call is made no more */
+
+/* A larger store to be timed on, and what it is made of: the classes of items that are the same, of equal size; whether
+   the concepts from one on and the roles from one on are all under each other, or each under itself only; the roles that
+   link, from 0 on, and whether they link all to all or only the items of the first class. */
+struct filling {
+    size_t classes;
+    uint64_t concept_ring, role_ring, members, linking;
+    int first_class_only;
+};
+static uint64_t large_base[SALTREEVE_LARGE_WORDS], large_words[SALTREEVE_LARGE_WORDS], small_words[SALTREEVE_WORDS];
+
+/* The lowest bits. */
+static uint64_t low(uint64_t count)
+{
+    return count >= 64 ? UINT64_MAX : ((uint64_t)1 << count) - 1;
+}
+
+/* Writes a row of the items of one class. */
+static void fill_class(uint64_t *row, uint64_t first, uint64_t size)
+{
+    for (uint64_t b = first; b < first + size; b++)
+        row[b / 64] |= (uint64_t)1 << b % 64;
+}
+
+/* Writes the links of all roles that link. */
+static void fill_links(uint64_t *w, const struct filling *filling, uint64_t size)
+{
+    uint64_t linked = filling->first_class_only ? size : SALTREEVE_LARGE_ITEMS;
+    for (uint64_t R = 0; R < filling->linking; R++)
+        for (uint64_t a = 0; a < linked; a++)
+            fill_class(w + 4656 + LARGE_ROW * (SALTREEVE_LARGE_ITEMS * R + a), 0, linked);
+}
+
+/* Fills the larger store that calls are timed on. */
+static void fill_large(const struct filling *filling)
+{
+    uint64_t *w = large_base, size = SALTREEVE_LARGE_ITEMS / filling->classes;
+    memset(large_base, 0, sizeof large_base);
+    for (uint64_t a = 0; a < SALTREEVE_LARGE_ITEMS; a++) {
+        fill_class(w + LARGE_ROW * a, a / size * size, size);
+        w[4144 + a] = filling->members;
+    }
+    for (uint64_t A = 0; A < SALTREEVE_CONCEPTS; A++)
+        w[4096 + A] = A < filling->concept_ring ? (uint64_t)1 << A : low(32) & ~low(filling->concept_ring);
+    for (uint64_t R = 0; R < SALTREEVE_ROLES; R++) {
+        uint64_t ring = low(16) & ~low(filling->role_ring);
+        w[4128 + R] = R < filling->role_ring ? (uint64_t)1 << R : ring | ring << 16;
+    }
+    fill_links(w, filling, size);
+}
+
+/* What is timed on the larger store: one call, and the result due. */
+struct large_timing {
+    const char *where;
+    struct filling filling;
+    struct call call;
+    int64_t due;
+};
+
+enum { ALL_PAIRS = SALTREEVE_LARGE_ITEMS * SALTREEVE_LARGE_ITEMS, HALF_PAIRS = ALL_PAIRS / 4 };
+
+#define LARGE_COUNTS SALTREEVE_LARGE_ITEMS, SALTREEVE_CONCEPTS, SALTREEVE_ROLES
+
+/* All items the same or all different, every role under every role and its inverse, and linking all to all. */
+#define FULL_SAME {1, 32, 0, 0x7FFFFFFF, 16, 0}
+#define FULL_APART {512, 32, 0, 0x7FFFFFFF, 16, 0}
+
+static const struct large_timing LARGE_TIMINGS[] = {
+    {"fullest, all the same", FULL_SAME, {"same", LARGE_COUNTS, 3, 500, 0}, 0},
+    {"fullest, all the same", FULL_SAME, {"under", LARGE_COUNTS, 31, 3, 0}, 1},
+    {"fullest, all the same", FULL_SAME, {"role_under", LARGE_COUNTS, 3, 5, 1}, 0},
+    {"fullest, all the same", FULL_SAME, {"in", LARGE_COUNTS, 300, 31, 0}, 512},
+    {"fullest, all the same", FULL_SAME, {"link", LARGE_COUNTS, 15, 511, 0}, 0},
+    {"fullest, all the same: refused by 4", FULL_SAME, {"same", LARGE_COUNTS, 512, 0, 0}, -4},
+    {"fullest, all different", FULL_APART, {"same", LARGE_COUNTS, 3, 500, 0}, 2},
+    {"fullest, all different", FULL_APART, {"under", LARGE_COUNTS, 31, 3, 0}, 1},
+    {"fullest, all different", FULL_APART, {"role_under", LARGE_COUNTS, 3, 5, 1}, 0},
+    {"fullest, all different", FULL_APART, {"in", LARGE_COUNTS, 300, 31, 0}, 1},
+    {"fullest, all different", FULL_APART, {"link", LARGE_COUNTS, 15, 511, 0}, 0},
+    {"fullest, all different: refused by 4", FULL_APART, {"same", LARGE_COUNTS, 512, 0, 0}, -4},
+    {"largest change", {2, 32, 0, 0x7FFFFFFF, 16, 1}, {"same", LARGE_COUNTS, 0, 256, 0},
+     2 * HALF_PAIRS + 16 * (ALL_PAIRS - HALF_PAIRS)},
+    {"largest change", {1, 1, 0, 1, 16, 0}, {"under", LARGE_COUNTS, 0, 1, 0}, 31 + 31 * 512},
+    {"largest change", {1, 32, 1, 0, 1, 0}, {"role_under", LARGE_COUNTS, 0, 1, 0}, 30 + 15 * ALL_PAIRS},
+    {"largest change", {1, 0, 0, 0, 16, 0}, {"in", LARGE_COUNTS, 0, 0, 0}, 32 * 512},
+    {"largest change", {1, 32, 0, 0, 0, 0}, {"link", LARGE_COUNTS, 0, 0, 0}, 16 * ALL_PAIRS},
+};
+
+/* Ends the program if a timed call gives something else. */
+static void require_result(const char *kind, int64_t due, int64_t got)
+{
+    if (got == due)
+        return;
+    printf("\nexpected %" PRId64 " of %s, got %" PRId64 "\n", due, kind, got);
+    exit(1);
+}
+
+/* Prints one line of times of the larger store. */
+static void print_large(const char *where, const char *kind, double spent, int calls, int64_t result)
+{
+    printf("larger store, %-36s %-10s %10.3f milliseconds a call (%d calls, result %" PRId64 ")\n",
+           where, kind, spent * 1e3 / calls, calls, result);
+    fflush(stdout);
+}
+
+/* Times one call on the larger store. */
+static void time_large(const struct large_timing *timing)
+{
+    double spent = 0;
+    int calls = 0;
+    fill_large(&timing->filling);
+    for (; calls < LARGE_CALLS && spent < LARGE_SECONDS; calls++) {
+        memcpy(large_words, large_base, sizeof large_words);
+        alarm(CALL_SECONDS);
+        double start = seconds();
+        int64_t got = make_call(&timing->call, large_words, SALTREEVE_LARGE_WORDS);
+        spent += seconds() - start;
+        alarm(0);
+        require_result(timing->call.kind, timing->due, got);
+    }
+    print_large(timing->where, timing->call.kind, spent, calls, timing->due);
+}
+
+/* Times one conversion of the words that stand in the stores. */
+static void time_convert(const char *where, const uint64_t *source, size_t length, uint64_t items, uint64_t *target,
+                         size_t target_length, int64_t due)
+{
+    double spent = 0;
+    int calls = 0;
+    for (; calls < LARGE_CALLS && spent < LARGE_SECONDS; calls++) {
+        alarm(CALL_SECONDS);
+        double start = seconds();
+        int64_t got = saltreeve_convert(source, length, items, SALTREEVE_CONCEPTS, SALTREEVE_ROLES, target, target_length);
+        spent += seconds() - start;
+        alarm(0);
+        require_result("convert", due, got);
+    }
+    print_large(where, "convert", spent, calls, due);
+}
+
+/* Times conversions: the fullest smaller store there and back, and the fullest larger one, which cannot go back. */
+static void time_conversions(void)
+{
+    static store base;
+    const struct filling full = FULL_APART;
+    int64_t cells = 128 + SALTREEVE_CONCEPTS + 2 * 16 * 16 + 16 * 128 * 128;
+    put(base, "fresh", 0, 0, 0);
+    ring_roles(base, 0);
+    for (size_t i = 432; i < SALTREEVE_WORDS; i++)
+        base[i] = UINT64_MAX;
+    time_convert("full smaller store, there", base, SALTREEVE_WORDS, 128, large_words, SALTREEVE_LARGE_WORDS, cells);
+    time_convert("full smaller store, and back", large_words, SALTREEVE_LARGE_WORDS, 128, small_words, SALTREEVE_WORDS, cells);
+    fill_large(&full);
+    time_convert("fullest, all different: refused by 26", large_base, SALTREEVE_LARGE_WORDS, 512, small_words,
+                 SALTREEVE_WORDS, -26);
+}
+
+/* Times a list of statements, from a fresh store on. */
+static void time_list(const char *where, uint64_t *w, size_t length, uint64_t items)
+{
+    enum { STATEMENTS = 500 };
+    static uint64_t statements[4 * STATEMENTS];
+    static int64_t answers[STATEMENTS];
+    double spent = 0;
+    int calls = 0;
+    for (size_t i = 0; i < STATEMENTS; i++) {
+        const uint64_t four[] = {SALTREEVE_KIND_LINK, draw(items), draw(items), draw(SALTREEVE_ROLES)};
+        memcpy(statements + 4 * i, four, sizeof four);
+    }
+    for (; calls < LARGE_CALLS && spent < LARGE_SECONDS; calls++) {
+        require_result("fresh", (int64_t)(items + 48), saltreeve_fresh(w, length, items, SALTREEVE_CONCEPTS, SALTREEVE_ROLES));
+        alarm(CALL_SECONDS);
+        double start = seconds();
+        int64_t got = saltreeve_add_all(w, length, items, SALTREEVE_CONCEPTS, SALTREEVE_ROLES, statements, 4 * STATEMENTS,
+                                        answers, STATEMENTS);
+        spent += seconds() - start;
+        alarm(0);
+        require_result("add_all", STATEMENTS, got);
+    }
+    printf("%-50s %-10s %10.3f milliseconds a call (%d calls, %d statements)\n", where, "add_all", spent * 1e3 / calls, calls,
+           STATEMENTS);
+}
+
+/* Prints the times of the larger store, of conversions and of lists. */
+static void run_large_times(void)
+{
+    for (size_t i = 0; i < COUNT(LARGE_TIMINGS); i++)
+        time_large(&LARGE_TIMINGS[i]);
+    time_conversions();
+    time_list("500 links to a fresh smaller store", small_words, SALTREEVE_WORDS, SALTREEVE_ITEMS);
+    time_list("500 links to a fresh larger store", large_words, SALTREEVE_LARGE_WORDS, SALTREEVE_LARGE_ITEMS);
+}
+
 /* Prints the times of all kinds on all stores. */
 static void run_times(void)
 {
@@ -412,6 +747,7 @@ static void run_times(void)
         time_drawn("worst store", base, KINDS[k]);
     for (int k = 0; k < 5; k++)
         time_largest(KINDS[k]);
+    run_large_times();
 }
 
 /* Runs the commands or the timing. */

@@ -90,6 +90,7 @@ static uint64_t counted(uint64_t total, uint64_t found)
 /* Adds the total to the text, of which so many lines were printed. */
 static void print_total(struct text *text, uint64_t total, uint64_t printed)
 {
+    total = EDITION_FAULT == TOTAL_OF_20_BITS ? total % (1 << 20) : total;
     uint64_t shown = TEXT_FAULT == TOTAL_OF_16_BITS ? (uint16_t)total : TEXT_FAULT == TOTAL_OF_PRINTED ? printed : total;
     print_numbers(text, "total", shown, NULL);
     print_piece(text, "\n", 1);

@@ -23,6 +23,7 @@ import host_test
 import oracle
 import oracle_why
 import sheet_test
+import size_why
 import why_cases
 from rule_cases import listed
 from store_cases import require
@@ -52,13 +53,14 @@ class Commands:
         self.seen = Counter()
         self.verdicts = {}
         self.calls = 0
+        self.after = None
+        self.sizes = 0
 
     # Asks the questions of a case.
     def ask_all(self, number, case):
         told = oracle_why.told_by(case.sheet)
         self.write(f"part {case.name.split('-')[0]} {number}\nsheet {host_test.listed(case.sheet)}\n")
-        if told.outcome.words is not None:
-            self.write(f"after {listed(told.outcome.words)}\n")
+        self.after = None
         for question in case.questions:
             self.ask(told, case, question)
 
@@ -72,6 +74,9 @@ class Commands:
             self.write(f"text {self.asked[-1].ample} {host_test.listed(given[0])}\n")
             return
         length, *numbers = given
+        if told.words(length) is not None and self.after != length:
+            self.write(f"after {listed(told.words(length))}\n")
+            self.after = length
         self.write(f"store {length} {int(told.words(length) is not None)}\n")
         self.write(f"{sort} {ample} {' '.join(str(number) for number in numbers)}\n")
 
@@ -80,6 +85,9 @@ class Commands:
 def write_all(commands, seed, sheets, small=False):
     for number, case in enumerate(why_cases.all_cases(seed, sheets, small)):
         commands.ask_all(number, case)
+    for number, case in enumerate(size_why.all_cases(seed, sheets, small)):
+        commands.ask_all(number, case)
+        commands.sizes += len(case.questions)
     why_cases.require_covered(commands.seen, why_cases.classes_due())
 
 
@@ -303,7 +311,8 @@ def test(driver, seed, sheets):
         return 1
     why_cases.require_covered(commands.seen, why_cases.ANSWER_CLASSES + why_cases.LONG_CLASSES)
     reasons = sum(commands.seen[name] for name in why_cases.ANSWER_CLASSES + why_cases.LONG_CLASSES)
-    print(f"why: {len(commands.asked)} questions ({reasons} cells explained by number), {commands.calls} calls, "
+    print(f"why: {len(commands.asked)} questions ({reasons} cells explained by number; {commands.sizes} about both editions "
+          f"and sizes of store), {commands.calls} calls, "
           f"seed {seed}: all answers are right")
     return 0
 
