@@ -8,6 +8,7 @@
 #include "commands.h"
 
 #include <signal.h>
+#include <sys/time.h>
 #include <unistd.h>
 
 enum {
@@ -225,10 +226,17 @@ static inline void on_signal(int number)
     raise(number);
 }
 
+/* Has the program stopped after so many seconds of its processor time, however busy the machine is; with 0, not at all. */
+static inline void limit_call(time_t seconds)
+{
+    const struct itimerval most = {.it_value = {.tv_sec = seconds}};
+    setitimer(ITIMER_VIRTUAL, &most, NULL);
+}
+
 /* Has the signals that stop a call say where the test is. */
 static inline void watch_signals(void)
 {
-    static const int STOPPING[] = {SIGALRM, SIGABRT, SIGSEGV, SIGBUS, SIGFPE, SIGILL};
+    static const int STOPPING[] = {SIGVTALRM, SIGABRT, SIGSEGV, SIGBUS, SIGFPE, SIGILL};
     for (size_t i = 0; i < sizeof STOPPING / sizeof STOPPING[0]; i++)
         signal(STOPPING[i], on_signal);
 }

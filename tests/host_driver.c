@@ -38,9 +38,9 @@ static void do_call(void)
     for (uint64_t left = read_number(); left > 0; left--) {
         lend_room_for(&run.room, read_number(), &run.text);
         next_call(&run.place, run.room.length);
-        alarm(CALL_SECONDS);
+        limit_call(CALL_SECONDS);
         int64_t got = saltreeve_check(run.sheet.entries, run.sheet.length, run.room.entries, run.room.length);
-        alarm(0);
+        limit_call(0);
         compare_call(text_result(&run.text, &run.room), got, lists, COUNT(lists));
     }
 }

@@ -51,10 +51,10 @@ static void call_once(void)
 {
     const struct named lists[] = {{"rule", &run.rule}, {"room", &run.room}};
     next_call(&run.place, run.room.length);
-    alarm(CALL_SECONDS);
+    limit_call(CALL_SECONDS);
     int64_t got = saltreeve_compile(run.items, run.concepts, run.roles, run.rule.entries, run.rule.length,
                                     run.room.entries, run.room.length);
-    alarm(0);
+    limit_call(0);
     compare_call(run.result, got, lists, COUNT(lists));
 }
 

@@ -26,7 +26,7 @@
  * and ends the program with 1. A call that fails, or does not come back within some
  * seconds, ends it by a signal; which call it was is printed.
  */
-#define _POSIX_C_SOURCE 199309L
+#define _XOPEN_SOURCE 600
 
 #include "calls.h"
 #include "saltreeve.h"
@@ -63,10 +63,10 @@ static void do_call(void)
     const struct named lists[] = {{"sheet", &run.sheet}, {"store", &run.store}, {"room", &run.room}};
     lend_call();
     next_call(&run.place, run.room.length);
-    alarm(CALL_SECONDS);
+    limit_call(CALL_SECONDS);
     int64_t got = saltreeve_check_in(run.sheet.entries, run.sheet.length, run.store.entries, run.store.length,
                                      run.room.entries, run.room.length);
-    alarm(0);
+    limit_call(0);
     compare_call(text_result(&run.text, &run.room), got, lists, COUNT(lists));
 }
 
@@ -398,10 +398,10 @@ static void time_sheet(const char *name, const struct timed *sheet, size_t lengt
     int calls = 0;
     double start = seconds(), spent = 0;
     for (; calls < MOST_CALLS && spent < TIMED_SECONDS; calls++) {
-        alarm(CALL_SECONDS);
+        limit_call(CALL_SECONDS);
         timed_length = (size_t)saltreeve_check_in((const uint8_t *)sheet->bytes, sheet->length, words, length,
                                                   timed_text, sizeof timed_text);
-        alarm(0);
+        limit_call(0);
         spent = seconds() - start;
     }
     printf("%-44s %6zu bytes %10.2f milliseconds a sheet (%d calls)\n", name, sheet->length, spent * 1e3 / calls, calls);

@@ -49,10 +49,10 @@ static void call_once(void)
 {
     const struct named lists[] = {{"store", &run.store}, {"rule", &run.rule}, {"out list", &run.out}};
     next_call(&run.place, run.out.length);
-    alarm(CALL_SECONDS);
+    limit_call(CALL_SECONDS);
     int64_t got = saltreeve_findings(run.store.entries, run.store.length, run.items, run.concepts, run.roles,
                                      run.rule.entries, run.rule.length, run.out.entries, run.out.length);
-    alarm(0);
+    limit_call(0);
     compare_call(run.result, got, lists, COUNT(lists));
 }
 
@@ -343,10 +343,10 @@ static int64_t measured_due;
 static void measured_call(void)
 {
     static uint64_t out[2 * LARGE_PAIRS];
-    alarm(CALL_SECONDS);
+    limit_call(CALL_SECONDS);
     int64_t got = saltreeve_findings(measured_store.words, measured_store.length, measured_store.items, SALTREEVE_CONCEPTS,
                                      SALTREEVE_ROLES, measured_rule, SALTREEVE_RULE_WORDS, out, measured_room);
-    alarm(0);
+    limit_call(0);
     if (got != measured_due) {
         printf("expected %" PRId64 " findings, got %" PRId64 "\n", measured_due, got);
         exit(1);
@@ -415,7 +415,7 @@ static void measure_sizes(void (*print)(void))
 /* Prints how much stack each rule takes. */
 static void run_stacks(void)
 {
-    alarm(0);  /* so that the first call is measured without what finding this function takes */
+    limit_call(0);  /* so that the first call is measured without what finding this function takes */
     measure_sizes(print_stack);
 }
 

@@ -29,7 +29,7 @@
  * around those lent. The first difference is printed and ends the program with 1.
  * A call that does not come back within some seconds ends it by a signal.
  */
-#define _POSIX_C_SOURCE 199309L
+#define _XOPEN_SOURCE 600
 
 #include "calls.h"
 #include "saltreeve.h"
@@ -187,9 +187,9 @@ static void do_call(struct run *run)
     int64_t expected = read_result();
     read_list(run);
     count_call(run);
-    alarm(CALL_SECONDS);
+    limit_call(CALL_SECONDS);
     int64_t got = make_call(&call, run->words, run->length);
-    alarm(0);
+    limit_call(0);
     compare_single(run, &call, expected, got);
     if (strcmp(call.kind, "fresh") == 0 && got >= 0)
         run->sum = 0;
@@ -260,11 +260,11 @@ static void do_all(struct run *run)
     int64_t due = read_statements(run);
     read_list(run);
     count_call(run);
-    alarm(CALL_SECONDS);
+    limit_call(CALL_SECONDS);
     int64_t got = saltreeve_add_all(run->words, run->length, call.items, call.concepts, call.roles,
                                     run->statements.entries, run->statements.length,
                                     run->answers.entries, run->answers.length);
-    alarm(0);
+    limit_call(0);
     compare_lists(run, &call, due, got, lists, COUNT(lists));
 }
 
@@ -286,10 +286,10 @@ static void do_convert(struct run *run)
     }
     call.x = length;
     count_call(run);
-    alarm(CALL_SECONDS);
+    limit_call(CALL_SECONDS);
     int64_t got = saltreeve_convert(run->words, run->length, call.items, call.concepts, call.roles,
                                     run->target.entries, run->target.length);
-    alarm(0);
+    limit_call(0);
     compare_lists(run, &call, due, got, lists, COUNT(lists));
 }
 
@@ -654,11 +654,11 @@ static void time_large(const struct large_timing *timing)
     fill_large(&timing->filling);
     for (; calls < LARGE_CALLS && spent < LARGE_SECONDS; calls++) {
         memcpy(large_words, large_base, sizeof large_words);
-        alarm(CALL_SECONDS);
+        limit_call(CALL_SECONDS);
         double start = seconds();
         int64_t got = make_call(&timing->call, large_words, SALTREEVE_LARGE_WORDS);
         spent += seconds() - start;
-        alarm(0);
+        limit_call(0);
         require_result(timing->call.kind, timing->due, got);
     }
     print_large(timing->where, timing->call.kind, spent, calls, timing->due);
@@ -671,11 +671,11 @@ static void time_convert(const char *where, const uint64_t *source, size_t lengt
     double spent = 0;
     int calls = 0;
     for (; calls < LARGE_CALLS && spent < LARGE_SECONDS; calls++) {
-        alarm(CALL_SECONDS);
+        limit_call(CALL_SECONDS);
         double start = seconds();
         int64_t got = saltreeve_convert(source, length, items, SALTREEVE_CONCEPTS, SALTREEVE_ROLES, target, target_length);
         spent += seconds() - start;
-        alarm(0);
+        limit_call(0);
         require_result("convert", due, got);
     }
     print_large(where, "convert", spent, calls, due);
@@ -712,12 +712,12 @@ static void time_list(const char *where, uint64_t *w, size_t length, uint64_t it
     }
     for (; calls < LARGE_CALLS && spent < LARGE_SECONDS; calls++) {
         require_result("fresh", (int64_t)(items + 48), saltreeve_fresh(w, length, items, SALTREEVE_CONCEPTS, SALTREEVE_ROLES));
-        alarm(CALL_SECONDS);
+        limit_call(CALL_SECONDS);
         double start = seconds();
         int64_t got = saltreeve_add_all(w, length, items, SALTREEVE_CONCEPTS, SALTREEVE_ROLES, statements, 4 * STATEMENTS,
                                         answers, STATEMENTS);
         spent += seconds() - start;
-        alarm(0);
+        limit_call(0);
         require_result("add_all", STATEMENTS, got);
     }
     printf("%-50s %-10s %10.3f milliseconds a call (%d calls, %d statements)\n", where, "add_all", spent * 1e3 / calls, calls,

@@ -121,9 +121,9 @@ static int64_t ask_with(const struct question *asked, size_t entries)
     if (!is_text)
         lend_store();
     lend(&run.out, is_text ? 1 : sizeof(uint32_t), entries, is_text ? GUARD_BYTE : LIST_FILL);
-    alarm(CALL_SECONDS);
+    limit_call(CALL_SECONDS);
     int64_t result = make_call(asked);
-    alarm(0);
+    limit_call(0);
     compare_lent(is_text ? &run.line : &run.store);
     print_answer(&run.out, result);
     return result;
