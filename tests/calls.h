@@ -226,8 +226,9 @@ static inline void on_signal(int number)
     raise(number);
 }
 
-/* Has the program stopped after so many seconds of its processor time, however busy the machine is; with 0, not at all. */
-static inline void limit_call(time_t seconds)
+/* Has the program stopped after so many seconds of its processor time, however busy the machine is; with 0, not at all.
+   Never inlined: its words would count to the stack that is measured. */
+static __attribute__((noinline, unused)) void limit_call(time_t seconds)
 {
     const struct itimerval most = {.it_value = {.tv_sec = seconds}};
     setitimer(ITIMER_VIRTUAL, &most, NULL);
