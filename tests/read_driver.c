@@ -171,18 +171,23 @@ static void line_feeds(struct timed *sheet)
         add(sheet, "\n");
 }
 
-/* All items the same, all roles linked, 64 rules of 32 nodes: 30 nested at least 8 of top, under a concept. */
+/* A rule of 32 nodes: 30 nested at least 8 of top, under a concept. */
+static void add_deep_rule(struct timed *sheet)
+{
+    add(sheet, "rule\tsub");
+    for (size_t level = 0; level < DEPTH; level++) {
+        add(sheet, "\tatleast\t8");
+        add_name(sheet, level % SALTREEVE_ROLES);
+    }
+    add(sheet, "\ttop\tA\n");
+}
+
+/* All items the same, all roles linked, 64 such rules. */
 static void deep_rules(struct timed *sheet)
 {
     begin_merged(sheet, SALTREEVE_ROLES);
-    for (size_t rule = 0; rule < RULES; rule++) {
-        add(sheet, "rule\tsub");
-        for (size_t level = 0; level < DEPTH; level++) {
-            add(sheet, "\tatleast\t8");
-            add_name(sheet, level % SALTREEVE_ROLES);
-        }
-        add(sheet, "\ttop\tA\n");
-    }
+    for (size_t rule = 0; rule < RULES; rule++)
+        add_deep_rule(sheet);
 }
 
 /* All items the same, all roles but one linked, 64 chains of four roles under that one: every pair is found. */
@@ -329,14 +334,8 @@ static void deep_512(struct timed *sheet)
     merge_large(sheet);
     for (size_t role = 0; role < SALTREEVE_ROLES; role++)
         link_large(sheet, role, 0, 0);
-    for (size_t rule = 0; rule < RULES && sheet->length + 500 <= SALTREEVE_SHEET; rule++) {
-        add(sheet, "rule\tsub");
-        for (size_t level = 0; level < DEPTH; level++) {
-            add(sheet, "\tatleast\t8");
-            add_name(sheet, level % SALTREEVE_ROLES);
-        }
-        add(sheet, "\ttop\tA\n");
-    }
+    for (size_t rule = 0; rule < RULES && sheet->length + 500 <= SALTREEVE_SHEET; rule++)
+        add_deep_rule(sheet);
 }
 
 /* All items the same and linked by all roles but the last, and 64 chains of four roles under that one. */
