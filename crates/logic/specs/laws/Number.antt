@@ -1,7 +1,7 @@
 -- Laws of how many things there are of a kind. Assumes nothing.
 use Rattle.std.specs.Prelude.{◌≡◌, refl, ◌⊎◌, List, [], ◌∷◌, ℕ, zero, suc, ◌+◌, ◌-◌, ◌≤◌, ◌<◌, length}
 use Rattle.std.proofs.Common.{sym, ap, ◌∙◌, subst, inl, inr, ⊎_elim, arith}
-use Rattle.std.proofs.Math.Logic.{Dec·not}
+use mathlib.Core.Logic.Dec
 use Rattle.std.proofs.Math.Decide.{ℕ_discrete}
 use Rattle.logic.specs.Number.{One, Distinct, Number}
 use Rattle.logic.specs.Number.One.{first, later}
@@ -138,7 +138,7 @@ pub number-split : {A : Type 0} {P Q : A → Type 0} {j k : ℕ} → ((x : A) �
 number-split {A} {P} {Q} {j} {k} d f a b = number_at (omega (arith, number-unique (number-join d f a rest) b)) rest
   where
     found : (m : ℕ) × Number (λ x. One x b.all × ¬ (P x)) m
-    found = sift (λ x. Dec·not (d x)) b.distinct
+    found = sift (λ x. Dec.not (d x)) b.distinct
 
     rest : Number (λ x. Q x × ¬ (P x)) found.0
     rest = number-iff (λ x r. (b.sound x r.0, r.1)) (λ x r. (b.whole x r.0, r.1)) found.1

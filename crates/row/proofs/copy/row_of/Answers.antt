@@ -1,0 +1,16 @@
+-- `row::copy::row_of` meets its contract. The loop's invariant is the contract up to `h`. Assumes nothing.
+use mathlib.Core.Path.{refl}
+use Prim.Native.Nat.{◌-◌}
+use native.Mathlib.Omega.{arith}
+use Rattle.row.specs.laws.Rows.{copied-done, copied_more, copied_none}
+use Rattle.row.specs.own.Pick.{room}
+use Rattle.row.proofs.copy.row_of.Goals as goal
+
+pub loop-h-init : goal.loop-h-init
+loop-h-init c = (omega arith, copied_none _ _ room)
+
+pub loop-h-preserved : goal.loop-h-preserved
+loop-h-preserved c = (omega arith, copied_more c.loop-h.invariant.1 (omega arith) refl)
+
+pub returns : goal.returns
+returns c = copied-done c.loop-h.invariant.1 c.loop-h.invariant.0 (omega arith)
