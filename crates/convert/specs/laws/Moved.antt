@@ -1,7 +1,7 @@
 -- From the words that are carried to the cells that are moved. Assumes nothing.
 use Rattle.std.specs.Prelude.{◌≡◌, List, ℕ, ◌+◌, ◌*◌, ◌/◌, ◌≤◌, ◌<◌, get_or, length}
 use Rattle.std.proofs.Common.{sym, ap, ◌∙◌, arith, mul-le-mul_right}
-use Rattle.std.proofs.Math.Logic.{Dec·and}
+use mathlib.Core.Logic.Dec
 use Rattle.std.proofs.Math.Decide.{dec_lt}
 use Rattle.std.proofs.Math.ListN.{get_or-eq_default}
 use Rattle.row.specs.Bit.{Has, Words}
@@ -96,11 +96,11 @@ module _ {W W' : ℕ} {n : Counts} {s t u : List ℕ} (f : Fits W n) (f' : Fits 
   -- every set bit is that of a cell of s
   parts-of : Parts W s (Holds W n s) → Parts W' u (Holds W n s)
   parts-of p = record {
-    same = λ a h k la lh lk x. same a h k la lh lk x (Dec·and (dec_lt a n.items) (dec_lt h W));
+    same = λ a h k la lh lk x. same a h k la lh lk x (Dec.and (dec_lt a n.items) (dec_lt h W));
     under = λ a k la x. p.under a k la (moved (between-on _ _ a (omega arith) (omega arith) (omega arith)) x);
     role = λ r k lr x. p.role r k lr (moved (between-on _ _ (concept_limit + r) (omega arith) (omega arith) (omega arith)) x);
     item = λ a k la x. item a k la x (dec_lt a n.items);
-    link = λ r a h k lr la lh lk x. link r a h k lr la lh lk x (Dec·and (dec_lt r n.roles) (Dec·and (dec_lt a n.items) (dec_lt h W)));
+    link = λ r a h k lr la lh lk x. link r a h k lr la lh lk x (Dec.and (dec_lt r n.roles) (Dec.and (dec_lt a n.items) (dec_lt h W)));
   }
     where
       same : (a h k : ℕ) → a < item_limit W' → h < W' → k < 64 → Has (get_or u (a * W' + h) 0) k → Dec (DeclaredItem n a × (h < W)) → Holds W n s (Same a (h * 64 + k))

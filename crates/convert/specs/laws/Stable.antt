@@ -1,7 +1,7 @@
 -- A store that cannot but be closed is closed: all that it asks can be told. Assumes nothing.
 use Rattle.std.specs.Prelude.{◌≡◌, List, ℕ, length}
 use Rattle.std.proofs.Common.{sym, ap₂, ◌∙◌, subst}
-use Rattle.std.proofs.Math.Logic.{Dec·and, Dec·not-not}
+use mathlib.Core.Logic.Dec
 use Rattle.std.proofs.Math.Decide.{dec_le, ℕ_discrete}
 use Rattle.store.specs.declared.Counts.{Counts}
 use Rattle.store.specs.Cell.{Cell, Obeys, Within}
@@ -11,7 +11,7 @@ use Rattle.store.specs.laws.Cells.{holds?, within?}
 
 -- whether a bit is that of a cell can be told
 cellular? : {W : ℕ} {n : Counts} → Fits W n → (i k : ℕ) → Dec (Cellular W n i k)
-cellular? {W} {n} f i k = go (Dec·and (within? n (cell_at W i k)) (Dec·and (ℕ_discrete i (word_of W (cell_at W i k))) (ℕ_discrete k (bit_of (cell_at W i k)))))
+cellular? {W} {n} f i k = go (Dec.and (within? n (cell_at W i k)) (Dec.and (ℕ_discrete i (word_of W (cell_at W i k))) (ℕ_discrete k (bit_of (cell_at W i k)))))
   where
     At : Cell → Type 0
     At c = Within n c × ((i ≡ word_of W c) × (k ≡ bit_of c))
@@ -22,7 +22,7 @@ cellular? {W} {n} f i k = go (Dec·and (within? n (cell_at W i k)) (Dec·and (�
 
 module _ {W : ℕ} {n : Counts} {s : List ℕ} (x : ¬ (¬ (ClosedStore W n s))) where
   tell : {P : Type 0} → Dec P → (ClosedStore W n s → P) → P
-  tell d f = (Dec·not-not d).0 (λ y. x (λ k. y (f k)))
+  tell d f = (Dec.not-not d).0 (λ y. x (λ k. y (f k)))
 
   cell : {c : Cell} → (ClosedStore W n s → Holds W n s c) → Holds W n s c
   cell {c} f = tell (holds? W n s c) f

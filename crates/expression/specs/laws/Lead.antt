@@ -1,7 +1,7 @@
 -- Laws of the items that have no lower-numbered same item: there are as many of them as articles, and what is kept of a row are these. Assumes nothing.
 use Rattle.std.specs.Prelude.{◌≡◌, refl, ◌⊎◌, true, List, ℕ, ◌+◌, ◌≤◌, ◌<◌}
 use Rattle.std.proofs.Common.{sym, subst, inl, inr, arith}
-use Rattle.std.proofs.Math.Logic.{Dec·and}
+use mathlib.Core.Logic.Dec
 use Rattle.std.proofs.Math.Decide.{dec_lt, ℕ_discrete}
 use Rattle.logic.specs.Lowest.{Lowest}
 use Rattle.logic.specs.Number.{Distinct, Number, One}
@@ -41,7 +41,7 @@ module _ {C : Cell → Type 0} {n : Counts} (o : Obeys n C) {P : ℕ → Type 0}
   module _ (C? : (c : Cell) → Dec (C c)) (P? : (b : ℕ) → Dec (P b)) where
     -- of each article one leads
     pub leads-whole : (x : ℕ) → DeclaredItem n x → P x → (b : ℕ) × Leads C P b × C (Same b x)
-    leads-whole x l h = go (lowest-of (λ b. Dec·and (P? b) (C? (Same b x))) x (h, o.same_refl l))
+    leads-whole x l h = go (lowest-of (λ b. Dec.and (P? b) (C? (Same b x))) x (h, o.same_refl l))
       where
         go : (b : ℕ) × Lowest (λ c. P c × C (Same c x)) b → (b : ℕ) × Leads C P b × C (Same b x)
         go b = let f = b.1.applies in (b.0, record { has = f.0; first = λ c lc q s. b.1.lowest c lc (q, o.same-trans (o.same-sym s) f.1) }, f.1)

@@ -1,7 +1,7 @@
 -- Laws of the items that a role links to so many articles: one by whole rows, several by the items found that have no lower-numbered same item. Assumes nothing.
 use Rattle.std.specs.Prelude.{◌≡◌, refl, Bool, true, false, not, List, [], ◌∷◌, ℕ, zero, suc, ◌*◌, ◌/◌, ◌%◌, ◌≤◌, ◌<◌, length, get_or}
 use Rattle.std.proofs.Common.{sym, subst, ⊎_elim, arith}
-use Rattle.std.proofs.Math.Logic.{Dec·and}
+use mathlib.Core.Logic.Dec
 use Rattle.logic.specs.Number.{Number}
 use Rattle.logic.specs.own.Decides.{Decides}
 use Rattle.logic.specs.laws.Decides.{decides-iff}
@@ -101,7 +101,7 @@ module _ {W m : ℕ} {n : Counts} {s lead : List ℕ} {P : ℕ → Type 0} (p : 
   inside y h = way-declared W n s u.inverse u.role.0 x y h.0
 
   told? : (b : ℕ) → Dec (Found (Holds W n s) u (RowHas p) x b)
-  told? b = Dec·and (linked? (holds? W n s) u x b) (has? (get_or p (b / 64) 0) (b % 64))
+  told? b = Dec.and (linked? (holds? W n s) u x b) (has? (get_or p (b / 64) 0) (b % 64))
 
   number : Number (Leads (Holds W n s) (Found (Holds W n s) u (RowHas p) x)) m
   number = number-iff (λ y h. leads-found u x y h.0 (d.sound y h.1).1) (λ y h. let z = found-leads c.closed.obeys u x y l h in (z.0, d.whole y (inside y h.has) z.1)) a

@@ -1,7 +1,7 @@
 -- Theorem C: a rule is IC-satisfied exactly if there is no finding, and a finding is exactly what breaks the rule's condition by its value. Assumes nothing.
 use Rattle.std.specs.Prelude.{◌≡◌, refl, ◌↔◌, List, [], ◌∷◌, ℕ, zero, suc, ◌≤◌, take}
 use Rattle.std.proofs.Common.{sym, ap, subst, subst₂, arith}
-use Rattle.std.proofs.Math.Logic.{Dec·not-not}
+use mathlib.Core.Logic.Dec
 use Rattle.store.specs.declared.Counts.{Counts}
 use Rattle.store.specs.declared.Item.{Item}
 use Rattle.store.specs.Cell.{Cell, DeclaredItem}
@@ -112,10 +112,10 @@ module _ {n : Counts} {G C : Cell → Type 0} (k : Settled n G C) {I : Interpret
   -- ---- with no finding the condition is met
 
   told_of : (c : Expr) → ItemsDeclared n c → {x : ℕ} → DeclaredItem n x → ¬ (¬ (HoldsOf C n c x)) → KnownOf n U I c (I.item x)
-  told_of c i {x} l f = (known_of k m c i l).1 ((Dec·not-not (holds_of? (settled-obeys k) k.tell c x)).0 f)
+  told_of c i {x} l f = (known_of k m c i l).1 ((Dec.not-not (holds_of? (settled-obeys k) k.tell c x)).0 f)
 
   told-role : (r : RoleUse) {x y : ℕ} → DeclaredItem n x → DeclaredItem n y → ¬ (¬ (Linked C r x y)) → KnownRole n U I r (I.item x) (I.item y)
-  told-role r {x} {y} l j f = (known-role k m r l j).1 ((Dec·not-not (linked? k.tell r x y)).0 f)
+  told-role r {x} {y} l j f = (known-role k m r l j).1 ((Dec.not-not (linked? k.tell r x y)).0 f)
 
   -- the same at named elements, by their items
   linked-at : (r : RoleUse) {d e : I.domain} (v : Named n I d) (w : Named n I e) → KnownRole n U I r d e → Linked C r v.name w.name
@@ -163,7 +163,7 @@ module _ {n : Counts} {G C : Cell → Type 0} (k : Settled n G C) {I : Interpret
   none-meets (In c a) e f = told_of (expr_of ns c) e.0 e.1 (λ b. f a.0 second.None (e.1, (refl, b)))
   none-meets (Rel r a b) e f = told-role r e.0 e.1 (λ v. f a.0 (second.Item b) (e.0, e.1, (refl, refl, v)))
   none-meets (NoRel r a b) e f = λ v. f a.0 (second.Item b) (e.0, e.1, (refl, refl, (known-role k m r e.0 e.1).0 v))
-  none-meets (Same a b) e f = record { equal = (minimal-value k m e.0 e.1).1 ((Dec·not-not (k.tell (SameCell a.0 b.0))).0 (λ v. f a.0 (second.Item b) (e.0, e.1, (refl, refl, v)))) }
+  none-meets (Same a b) e f = record { equal = (minimal-value k m e.0 e.1).1 ((Dec.not-not (k.tell (SameCell a.0 b.0))).0 (λ v. f a.0 (second.Item b) (e.0, e.1, (refl, refl, v)))) }
   none-meets (Differ a b) e f = λ v. f a.0 (second.Item b) (e.0, e.1, (refl, refl, (minimal-value k m e.0 e.1).0 v.equal))
 
 -- ---- the theorem

@@ -1,5 +1,5 @@
 -- Laws of what an expression holds of: it can be told. Assumes nothing.
-use Rattle.std.proofs.Math.Logic.{Dec·and, Dec·not}
+use mathlib.Core.Logic.Dec
 use Rattle.std.specs.Prelude.{Bool, true, false, List, ℕ, ◌-◌}
 use Rattle.store.specs.declared.Counts.{Counts}
 use Rattle.store.specs.Cell.{Cell, Obeys}
@@ -25,9 +25,9 @@ pub holds_of? : {C : Cell → Type 0} {n : Counts} → Obeys n C → ((c : Cell)
 unfolding HoldsOf
 holds_of? o C? (name c) x = C? (In x c.0)
 holds_of? o C? top x = yes tt
-holds_of? o C? (neg e) x = Dec·not (holds_of? o C? e x)
-holds_of? o C? (both d e) x = Dec·and (holds_of? o C? d x) (holds_of? o C? e x)
-holds_of? o C? (many k u e) x = articles? o C? (λ b. Dec·and (linked? C? u x b) (holds_of? o C? e b)) k
+holds_of? o C? (neg e) x = Dec.not (holds_of? o C? e x)
+holds_of? o C? (both d e) x = Dec.and (holds_of? o C? d x) (holds_of? o C? e x)
+holds_of? o C? (many k u e) x = articles? o C? (λ b. Dec.and (linked? C? u x b) (holds_of? o C? e b)) k
 holds_of? o C? (own u) x = linked? C? u x x
 holds_of? o C? (one a) x = C? (Same x a.0)
 

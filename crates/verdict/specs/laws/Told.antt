@@ -2,7 +2,8 @@
 use Rattle.std.specs.Prelude.{◌≡◌, ◌⊎◌, List, [], ◌∷◌, ◌++◌, take}
 use Rattle.std.proofs.Common.{sym, ⊎_elim, arith}
 use Rattle.std.proofs.Math.Path.{ap, subst}
-use Rattle.std.proofs.Math.Logic.{inl, inr, Dec·and, Dec·not, Dec·of-iff}
+use Rattle.std.proofs.Math.Logic.{inl, inr}
+use mathlib.Core.Logic.Dec
 use Prim.Native.Nat.{ℕ, zero, suc, ◌<◌}
 use Rattle.std.proofs.Math.Decide.{ℕ_discrete, dec_lt}
 use Rattle.logic.specs.Number.{Number, One}
@@ -123,23 +124,23 @@ module _ {B : ℕ × Second → Type 0} (tell : (p : ℕ × Second) → Dec (B p
 -- ---- rules
 
 three? : {P Q R : Type 0} → Dec P → Dec Q → Dec R → Dec (P × Q × R)
-three? p q r = Dec·of-iff ((λ z. (z.0, z.1.0, z.1.1), λ z. (z.0, (z.1, z.2)))) (Dec·and p (Dec·and q r))
+three? p q r = Dec.of_iff ((λ z. (z.0, z.1.0, z.1.1), λ z. (z.0, (z.1, z.2)))) (Dec.and p (Dec.and q r))
 
 module _ {n : Counts} {C : Cell → Type 0} (o : Obeys n C) (tell : (c : Cell) → Dec (C c)) where
   path? : (rs : List RoleUse) (x y : ℕ) → Dec (Path C n rs x y)
   path? [] x y = ℕ_discrete x y
   path? (r ∷ rs) x y =
-      Dec·of-iff ((λ z. (z.0, z.1.0, z.1.1.0, z.1.1.1), λ z. (z.0, (z.1, (z.2, z.3)))))
-      (some? (told_below (λ z. Dec·and (linked? tell r x z) (path? rs z y)) n.items).1)
+      Dec.of_iff ((λ z. (z.0, z.1.0, z.1.1.0, z.1.1.1), λ z. (z.0, (z.1, (z.2, z.3)))))
+      (some? (told_below (λ z. Dec.and (linked? tell r x z) (path? rs z y)) n.items).1)
 
   alone? : (ns : List Slot) (h : Head) (x : ℕ) → Dec (BreaksAlone C n ns h x)
-  alone? ns (Sub c d) x = Dec·and (holds_of? o tell (expr_of ns c) x) (Dec·not (holds_of? o tell (expr_of ns d) x))
+  alone? ns (Sub c d) x = Dec.and (holds_of? o tell (expr_of ns c) x) (Dec.not (holds_of? o tell (expr_of ns d) x))
   alone? ns (RoleSub r s) x = no (λ z. z)
   alone? ns (Chain k r1 r2 r3 r4 r) x = no (λ z. z)
-  alone? ns (Ref r) x = Dec·not (linked? tell r x x)
+  alone? ns (Ref r) x = Dec.not (linked? tell r x x)
   alone? ns (Irr r) x = linked? tell r x x
   alone? ns (Dis r s) x = no (λ z. z)
-  alone? ns (In c a) x = Dec·and (ℕ_discrete x a.0) (Dec·not (holds_of? o tell (expr_of ns c) x))
+  alone? ns (In c a) x = Dec.and (ℕ_discrete x a.0) (Dec.not (holds_of? o tell (expr_of ns c) x))
   alone? ns (Rel r a b) x = no (λ z. z)
   alone? ns (NoRel r a b) x = no (λ z. z)
   alone? ns (Same a b) x = no (λ z. z)
@@ -147,20 +148,20 @@ module _ {n : Counts} {C : Cell → Type 0} (o : Obeys n C) (tell : (c : Cell) �
 
   pair? : (h : Head) (x y : ℕ) → Dec (BreaksPair C n h x y)
   pair? (Sub c d) x y = no (λ z. z)
-  pair? (RoleSub r s) x y = Dec·and (linked? tell r x y) (Dec·not (linked? tell s x y))
-  pair? (Chain k r1 r2 r3 r4 r) x y = Dec·and (path? (take k (r1 ∷ r2 ∷ r3 ∷ r4 ∷ [])) x y) (Dec·not (linked? tell r x y))
+  pair? (RoleSub r s) x y = Dec.and (linked? tell r x y) (Dec.not (linked? tell s x y))
+  pair? (Chain k r1 r2 r3 r4 r) x y = Dec.and (path? (take k (r1 ∷ r2 ∷ r3 ∷ r4 ∷ [])) x y) (Dec.not (linked? tell r x y))
   pair? (Ref r) x y = no (λ z. z)
   pair? (Irr r) x y = no (λ z. z)
-  pair? (Dis r s) x y = Dec·and (linked? tell r x y) (linked? tell s x y)
+  pair? (Dis r s) x y = Dec.and (linked? tell r x y) (linked? tell s x y)
   pair? (In c a) x y = no (λ z. z)
-  pair? (Rel r a b) x y = three? (ℕ_discrete x a.0) (ℕ_discrete y b.0) (Dec·not (linked? tell r x y))
+  pair? (Rel r a b) x y = three? (ℕ_discrete x a.0) (ℕ_discrete y b.0) (Dec.not (linked? tell r x y))
   pair? (NoRel r a b) x y = three? (ℕ_discrete x a.0) (ℕ_discrete y b.0) (linked? tell r x y)
-  pair? (Same a b) x y = three? (ℕ_discrete x a.0) (ℕ_discrete y b.0) (Dec·not (tell (SameCell x y)))
+  pair? (Same a b) x y = three? (ℕ_discrete x a.0) (ℕ_discrete y b.0) (Dec.not (tell (SameCell x y)))
   pair? (Differ a b) x y = three? (ℕ_discrete x a.0) (ℕ_discrete y b.0) (tell (SameCell x y))
 
   -- whether a place breaks a rule
   breaks? : (u : Rule) (x : ℕ) (s : Second) → Dec (Breaks C n u x s)
-  breaks? u x second.None = Dec·and (dec_lt x n.items) (alone? u.nodes u.head x)
+  breaks? u x second.None = Dec.and (dec_lt x n.items) (alone? u.nodes u.head x)
   breaks? u x (second.Item y) = three? (dec_lt x n.items) (dec_lt y.0 n.items) (pair? u.head x y.0)
 
   -- it is one of declared items

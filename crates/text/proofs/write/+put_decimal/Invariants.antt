@@ -1,0 +1,5 @@
+-- `text::write::put_decimal` meets its contract. Assumes nothing.
+use Rattle.text.proofs.write.+put_decimal.Given as goal
+
+abbrev pub decreases-put_decimal : goal.decreases-put_decimal
+decreases-put_decimal l = l.n
