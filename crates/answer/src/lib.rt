@@ -3,7 +3,7 @@ mod ask;
 pub mod reply;
 
 // The finding that a question asks for, if it asks for one: the item, and the concepts on the sides of its rule.
-#[derive(Drop)]
+#[derive(Clone, Copy)]
 pub struct FindingAsked {
     pub found: bool,
     pub item: usize,

@@ -26,7 +26,7 @@ impl Body {
 }
 
 // Where the next item is written, and the next free variable.
-#[derive(Drop)]
+#[derive(Clone, Copy)]
 pub struct Cursor {
     pub next: u16,
     pub place: usize,

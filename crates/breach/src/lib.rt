@@ -5,14 +5,14 @@ use row::Row;
 use rule::Head;
 
 // A root of a rule: the number of its node, or none.
-#[derive(Drop)]
+#[derive(Clone, Copy)]
 pub enum Root {
     None,
     At(usize),
 }
 
 // What is kept of a rule while its findings are sought: its head, and the rows of what its roots hold of.
-#[derive(Drop)]
+#[derive(Clone, Copy)]
 pub struct Plan {
     pub head: Head,
     pub left: Row,

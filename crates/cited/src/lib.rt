@@ -2,14 +2,14 @@
 pub mod print;
 
 // How far the lines of a reason are printed: the place in the room, and how many lines there are so far.
-#[derive(Drop)]
+#[derive(Clone, Copy)]
 pub struct Printed {
     pub at: usize,
     pub total: usize,
 }
 
 // The item and the concept of a cell that is absent, if there is one to be printed.
-#[derive(Drop)]
+#[derive(Clone, Copy)]
 pub struct Absent {
     pub on: bool,
     pub item: usize,

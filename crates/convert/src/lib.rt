@@ -10,7 +10,7 @@ ghost use Rattle.store.specs.own.Laid.{widest};
 use store::{Counts, Store};
 
 // Why a conversion is refused.
-#[derive(Drop)]
+#[derive(Clone, Copy)]
 pub enum Refusal {
     // The two do not have the two lengths, or a declared count is over the source's limit: 1.
     Size,
@@ -21,7 +21,7 @@ pub enum Refusal {
 }
 
 // What a conversion gives: the number of cells, or a refusal.
-#[derive(Drop)]
+#[derive(Clone, Copy)]
 pub enum Answer {
     Cells(u64),
     Refused(Refusal),

@@ -3,7 +3,7 @@ pub mod ahead;
 pub mod dues;
 
 // What is due first in the middle of an expression, before some expressions.
-#[derive(Drop)]
+#[derive(Clone, Copy)]
 pub enum Lead {
     None,
     RoleUse,
@@ -13,7 +13,7 @@ pub enum Lead {
 }
 
 // What is still due in a line: the lead, so many expressions, and of the line-up what comes after its first so many.
-#[derive(Drop)]
+#[derive(Clone, Copy)]
 pub struct Pending {
     pub lead: Lead,
     pub exprs: usize,

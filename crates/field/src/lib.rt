@@ -8,7 +8,7 @@ use rule::Rule;
 use store::Store;
 
 // The words of concept expressions; None is any other field.
-#[derive(Drop)]
+#[derive(Clone, Copy)]
 pub enum Operator {
     And,
     Or,
@@ -25,7 +25,7 @@ pub enum Operator {
 }
 
 // The words of statements.
-#[derive(Drop)]
+#[derive(Clone, Copy)]
 pub enum StatementWord {
     In,
     Rel,
@@ -35,7 +35,7 @@ pub enum StatementWord {
 }
 
 // The words of rules.
-#[derive(Drop)]
+#[derive(Clone, Copy)]
 pub enum RuleWord {
     Sub,
     RoleSub,
@@ -51,7 +51,7 @@ pub enum RuleWord {
 }
 
 // What a line is, by its word.
-#[derive(Drop)]
+#[derive(Clone, Copy)]
 pub enum Form {
     // A declaration of a concept, a role or an item.
     Concept,
@@ -66,7 +66,7 @@ pub enum Form {
 }
 
 // The sections of a sheet, in their order; None is that of an unknown word.
-#[derive(Drop)]
+#[derive(Clone, Copy)]
 pub enum Section {
     Declarations,
     Statements,
@@ -75,7 +75,7 @@ pub enum Section {
 }
 
 // What is due in a field.
-#[derive(Drop)]
+#[derive(Clone, Copy)]
 pub enum Due {
     // A name to be declared.
     NewConcept,
@@ -97,7 +97,7 @@ pub enum Due {
 }
 
 // What is due in the fields of a line: the first so many of five.
-#[derive(Drop)]
+#[derive(Clone, Copy)]
 pub struct Lineup {
     pub count: usize,
     pub first: Due,

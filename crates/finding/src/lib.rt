@@ -16,7 +16,7 @@ use store::{Concept, Counts, Item, Layout, Statement, Store};
 use why::Paths;
 
 // What asking why an item is a finding gives.
-#[derive(Drop)]
+#[derive(Clone, Copy)]
 pub enum FindingExplained {
     // How many lines there are in all, and the concept in which the item is not.
     Lines(usize, Concept),
@@ -25,14 +25,14 @@ pub enum FindingExplained {
 }
 
 // The concept of a node, if it is a name.
-#[derive(Drop)]
+#[derive(Clone, Copy)]
 pub struct NodeName {
     pub named: bool,
     pub concept: usize,
 }
 
 // The concepts on the sides of a rule, if it is `sub` with concept names.
-#[derive(Drop)]
+#[derive(Clone, Copy)]
 pub struct Sides {
     pub named: bool,
     pub left: usize,

@@ -11,7 +11,7 @@ use rule::{Finding, Head, Rule};
 use store::{Counts, Layout};
 
 // Why a rule is refused.
-#[derive(Drop)]
+#[derive(Clone, Copy)]
 pub enum RuleRefusal {
     // The store is not as long as it must be, or a declared count is over its limit: 1.
     Size,
@@ -24,14 +24,14 @@ pub enum RuleRefusal {
 }
 
 // How many findings a rule has, or why it is refused.
-#[derive(Drop)]
+#[derive(Clone, Copy)]
 pub enum Total {
     Count(u64),
     Refused(RuleRefusal),
 }
 
 // Where the findings are: the plan, the places that are left in the row of x, and the least of them, y. At the end x is the number of items.
-#[derive(Drop)]
+#[derive(Clone, Copy)]
 pub struct Cursor {
     pub plan: Plan,
     pub row: Row,
@@ -40,7 +40,7 @@ pub struct Cursor {
 }
 
 // A search for findings that a writer steps: the finding at hand, the parts of the cursor there, and what it reads the store by.
-#[derive(Drop)]
+#[derive(Clone, Copy)]
 pub struct Search {
     pub finding: Finding,
     pub x: usize,
@@ -54,7 +54,7 @@ pub struct Search {
 }
 
 // What a listing needs: its answer, how many findings to write, and the search at the first.
-#[derive(Drop)]
+#[derive(Clone, Copy)]
 pub struct Prepared {
     pub answer: Total,
     pub write: usize,

@@ -4,7 +4,7 @@ pub mod lines;
 mod walk;
 
 // What all the fields of a line come to: whether they are exactly those that are due, the lowest number of refusal that applies to one of them or 0, and their nodes.
-#[derive(Drop)]
+#[derive(Clone, Copy)]
 struct Walked {
     pub fits: bool,
     pub fault: usize,
@@ -12,7 +12,7 @@ struct Walked {
 }
 
 // How far a sheet has come: whether a statement was accepted, and how many rules.
-#[derive(Drop)]
+#[derive(Clone, Copy)]
 pub struct Marks {
     pub stated: bool,
     pub rules: usize,

@@ -29,14 +29,14 @@ const INPUT: usize = HEAD + 32769;
 const GARBAGE: u64 = 0x5555_5555_5555_5555;
 
 // What reading a sheet with a list gave: the answer, and the list afterwards.
-#[derive(Drop)]
+#[derive(Clone, Copy)]
 struct Listed {
     pub answer: Reading,
     pub list: [Finding; ROOM],
 }
 
 // What listing a rule's findings gave: the answer, and the list afterwards.
-#[derive(Drop)]
+#[derive(Clone, Copy)]
 struct Found {
     pub answer: Total,
     pub list: [Finding; ROOM],

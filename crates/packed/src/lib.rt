@@ -8,7 +8,7 @@ use rule::{Node, RoleUse, Rule, Slot};
 use store::{Concept, Item, Role};
 
 // A node as four numbers: its kind, where a role and its inverse make two, and what it has.
-#[derive(Drop)]
+#[derive(Clone, Copy)]
 pub struct Packed {
     pub kind: usize,
     pub first: usize,

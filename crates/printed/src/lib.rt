@@ -13,7 +13,7 @@ use rule::{Finding, Rule, Second};
 use store::{Counts, Item, Layout};
 
 // How far the findings are printed: the place in the room, how many more may be printed, and how many there are so far in all.
-#[derive(Drop)]
+#[derive(Clone, Copy)]
 pub struct Tally {
     pub at: usize,
     pub left: usize,

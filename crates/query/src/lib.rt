@@ -6,7 +6,7 @@ mod compile;
 pub struct Query {}
 
 // Why a rule is not compiled.
-#[derive(Drop)]
+#[derive(Clone, Copy)]
 pub enum QueryRefusal {
     // A declared count is over its limit: 1.
     Size,
@@ -21,7 +21,7 @@ pub enum QueryRefusal {
 }
 
 // The number of items of the query and of its answer variables, or why there is none.
-#[derive(Drop)]
+#[derive(Clone, Copy)]
 pub enum Outcome {
     Compiled(usize, usize),
     Refused(QueryRefusal),

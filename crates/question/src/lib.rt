@@ -4,7 +4,7 @@ pub mod ask;
 use store::Statement;
 
 // The cell that a question asks for, as the statement that states it, if it asks for one.
-#[derive(Drop)]
+#[derive(Clone, Copy)]
 pub struct CellAsked {
     pub asked: bool,
     pub cell: Statement,

@@ -14,7 +14,7 @@ use line::{Marks, Sheet};
 use store::{Counts, Item, Statement};
 
 // A line as a statement: whether it is told to be one with nothing wrong, and the statement.
-#[derive(Drop)]
+#[derive(Clone, Copy)]
 pub struct StatementLine {
     pub found: bool,
     pub statement: Statement,

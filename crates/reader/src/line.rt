@@ -5,14 +5,14 @@ ghost use Rattle.reader.specs.own.Field.{field_at, field_from, past_field};
 use crate::scan::Scan;
 
 // The field at a place of a line, from its start to its end; or none any more.
-#[derive(Drop)]
+#[derive(Clone, Copy)]
 pub enum Next {
     At(usize, usize),
     End,
 }
 
 // The reader of a line: the line that it reads, or the text that the line stands in, and its place there.
-#[derive(Drop)]
+#[derive(Clone, Copy)]
 pub struct Reader<'a> {
     pub line: &'a [u8],
     pub at: usize,

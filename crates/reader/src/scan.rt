@@ -4,7 +4,7 @@ ghost use Rattle.text.specs.Split.{fields};
 ghost use Rattle.reader.specs.own.Scan.{Closes, Ended, Masks, Scanned, Skips, start_by};
 
 // What one look at a line found: where it ends in the text, how many fields it has, and whether all its bytes may stand in a line.
-#[derive(Drop)]
+#[derive(Clone, Copy)]
 pub struct Scan {
     pub end: usize,
     pub count: usize,

@@ -31,7 +31,7 @@ impl Lines {
 }
 
 // What steps are about: items that are the same, concepts that are under others, roles that are under others or their inverses.
-#[derive(Drop)]
+#[derive(Clone, Copy)]
 pub enum Kind {
     Same,
     Under,
@@ -39,7 +39,7 @@ pub enum Kind {
 }
 
 // A way that has to lead from a to b and from c to d, if it is open.
-#[derive(Drop)]
+#[derive(Clone, Copy)]
 pub struct Way {
     pub on: bool,
     pub a: usize,
@@ -49,14 +49,14 @@ pub struct Way {
 }
 
 // What is sought: one of two ways.
-#[derive(Drop)]
+#[derive(Clone, Copy)]
 pub struct Goal {
     pub one: Way,
     pub other: Way,
 }
 
 // The steps that a statement states, if any: from a to b, and from c to d.
-#[derive(Drop)]
+#[derive(Clone, Copy)]
 pub struct Steps {
     pub any: bool,
     pub a: usize,
@@ -66,7 +66,7 @@ pub struct Steps {
 }
 
 // An item in a concept (sort 1: the item twice, and the concept above) or a link (sort 2: the two items, and the role above); any other sort is neither.
-#[derive(Drop)]
+#[derive(Clone, Copy)]
 pub struct Fact {
     pub sort: usize,
     pub above: usize,
@@ -75,7 +75,7 @@ pub struct Fact {
 }
 
 // A way from one fact to another, if it is open: from the concept or the role `from` to `to`, from the item a to b and from c to d.
-#[derive(Drop)]
+#[derive(Clone, Copy)]
 pub struct Route {
     pub on: bool,
     pub from: usize,

@@ -4,14 +4,14 @@ pub mod nodes;
 use store::{Concept, Item, Role};
 
 // A role, or its inverse.
-#[derive(Drop)]
+#[derive(Clone, Copy)]
 pub struct RoleUse {
     pub role: Role,
     pub inverse: bool,
 }
 
 // A node of a concept expression. A usize is the number of a child's node.
-#[derive(Drop)]
+#[derive(Clone, Copy)]
 pub enum Node {
     // The concept of that name.
     Name(Concept),
@@ -30,13 +30,13 @@ pub enum Node {
 }
 
 // A place for a node.
-#[derive(Drop)]
+#[derive(Clone, Copy)]
 pub struct Slot {
     pub node: Node,
 }
 
 // The rule's word and its fields. A usize is the number of a root's node.
-#[derive(Drop)]
+#[derive(Clone, Copy)]
 pub enum Head {
     Sub(usize, usize),
     RoleSub(RoleUse, RoleUse),
@@ -53,7 +53,7 @@ pub enum Head {
 }
 
 // A rule by number: its head, how many nodes it has, and the nodes.
-#[derive(Drop)]
+#[derive(Clone, Copy)]
 pub struct Rule {
     pub head: Head,
     pub len: usize,
@@ -72,14 +72,14 @@ impl Rule {
 }
 
 // The second item of a finding, or none.
-#[derive(Drop)]
+#[derive(Clone, Copy)]
 pub enum Second {
     None,
     Item(Item),
 }
 
 // What breaks a rule: the rule's number, an item, and a second item or none.
-#[derive(Drop)]
+#[derive(Clone, Copy)]
 pub struct Finding {
     pub rule: usize,
     pub item: Item,

@@ -4,7 +4,7 @@ mod places;
 pub mod rules;
 
 // How far the expressions of a line are read: how many nodes are written so far, and the number of the field past them.
-#[derive(Drop)]
+#[derive(Clone, Copy)]
 struct Parsed {
     pub len: usize,
     pub at: usize,

@@ -14,28 +14,28 @@ use rule::Rule;
 use store::{Counts, Store};
 
 // What is kept of the lines read so far: how many names are declared, and how far the sheet has come.
-#[derive(Drop)]
+#[derive(Clone, Copy)]
 pub struct Kept {
     pub counts: Counts,
     pub marks: Marks,
 }
 
 // What reading a line gives: its number of refusal or 0, and what is kept then.
-#[derive(Drop)]
+#[derive(Clone, Copy)]
 struct LineRead {
     why: usize,
     kept: Kept,
 }
 
 // Where the rules of a sheet begin: a place, and the number of the line there. No rule stands before it.
-#[derive(Drop)]
+#[derive(Clone, Copy)]
 pub struct Start {
     pub at: usize,
     pub line: usize,
 }
 
 // How the lines of a sheet end: the number of the faulty line and its number of refusal, or 0 and 0; what is kept; and where the rules begin.
-#[derive(Drop)]
+#[derive(Clone, Copy)]
 pub struct Ended {
     pub line: usize,
     pub why: usize,
@@ -44,7 +44,7 @@ pub struct Ended {
 }
 
 // The next rule of a sheet: whether there is one, the number of its line, the place past that line, and the rule.
-#[derive(Drop)]
+#[derive(Clone, Copy)]
 pub struct RuleLine {
     pub found: bool,
     pub line: usize,
@@ -53,7 +53,7 @@ pub struct RuleLine {
 }
 
 // What reading a sheet gives.
-#[derive(Drop)]
+#[derive(Clone, Copy)]
 pub enum Reading {
     // How many names are declared, how many rules there are, and how many findings they have in all.
     Accepted(Counts, usize, u64),
@@ -62,7 +62,7 @@ pub enum Reading {
 }
 
 // What reading a sheet gives, how many names it declares, and where its rules begin.
-#[derive(Drop)]
+#[derive(Clone, Copy)]
 pub struct Whole {
     pub answer: Reading,
     pub counts: Counts,

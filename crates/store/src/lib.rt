@@ -4,19 +4,19 @@ pub mod role_word;
 pub mod size;
 
 // The number of an item.
-#[derive(Drop)]
+#[derive(Clone, Copy)]
 pub struct Item(pub usize);
 
 // The number of a concept, a part family.
-#[derive(Drop)]
+#[derive(Clone, Copy)]
 pub struct Concept(pub usize);
 
 // The number of a role, a kind of link.
-#[derive(Drop)]
+#[derive(Clone, Copy)]
 pub struct Role(pub usize);
 
 // How many items, concepts and roles are declared.
-#[derive(Drop)]
+#[derive(Clone, Copy)]
 pub struct Counts {
     pub items: usize,
     pub concepts: usize,
@@ -24,7 +24,7 @@ pub struct Counts {
 }
 
 // A statement: one of the five kinds.
-#[derive(Drop)]
+#[derive(Clone, Copy)]
 pub enum Statement {
     // The two items are the same article.
     Same(Item, Item),
@@ -39,7 +39,7 @@ pub enum Statement {
 }
 
 // Where the parts of a store begin, the part of "same" at 0: concepts, roles, items in concepts, links; and the words of an item row.
-#[derive(Drop)]
+#[derive(Clone, Copy)]
 pub struct Layout {
     pub width: usize,
     pub under: usize,

@@ -12,7 +12,7 @@ use sheet::Reading;
 use store::{Counts, Item, Layout, Store};
 
 // A search for the findings of all rules of a sheet: the finding at hand, the search of its rule, how many that rule has left, how many names are declared, and where the sheet is read on for the next rule.
-#[derive(Drop)]
+#[derive(Clone, Copy)]
 pub struct Trail {
     pub finding: Finding,
     pub x: usize,
@@ -31,7 +31,7 @@ pub struct Trail {
 }
 
 // What reading a sheet with a list needs: its answer, how many findings to write, and the trail at the first.
-#[derive(Drop)]
+#[derive(Clone, Copy)]
 pub struct Opening {
     pub answer: Reading,
     pub write: usize,

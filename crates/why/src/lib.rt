@@ -18,7 +18,7 @@ use reason::Lines;
 use store::{Counts, Statement, Store};
 
 // The next statement of a sheet: whether there is one, the number of its line, the place past that line, and the statement.
-#[derive(Drop)]
+#[derive(Clone, Copy)]
 pub struct StatementLine {
     pub found: bool,
     pub line: usize,
@@ -38,7 +38,7 @@ impl Paths {
 }
 
 // What asking why a cell is true gives.
-#[derive(Drop)]
+#[derive(Clone, Copy)]
 pub enum Explained {
     // How many lines there are in all.
     Lines(usize),

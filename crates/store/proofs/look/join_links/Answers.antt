@@ -1,0 +1,12 @@
+-- `store::look::join_links` meets its contract: the row of the links is taken from where the layout has it. Assumes nothing.
+use native.Mathlib.Omega.{arith}
+use Rattle.store.specs.laws.Parts.{item-lt, role-lt}
+use Rattle.store.specs.laws.Look.{link-row-within, links-joined}
+use Rattle.store.proofs.look.join_links.Goals as goal
+
+pub together-requires : goal.together-requires
+together-requires c = let w = c.args.at.width in
+    omega (arith, c.link_row-from.ensures, c.requires.0.long, c.requires.0.wide, link-row-within w c.args.r.0 c.args.a.0 (role-lt c.requires.1.fits c.requires.2) (item-lt c.requires.1.fits c.requires.3))
+
+pub returns : goal.returns
+returns c = links-joined c.args.r.0 c.args.a.0 c.requires.1 c.requires.3 c.link_row-from.ensures c.together.ensures

@@ -1,0 +1,10 @@
+-- `store::size::width` meets its contract. Assumes nothing.
+use mathlib.Core.Path.{sym}
+use Rattle.store.specs.laws.Width.{width-large, width_small}
+use Rattle.store.proofs.size.width.Goals as goal
+
+pub returns-then-words-eq-LARGE_WORDS : goal.returns-then-words-eq-LARGE_WORDS
+returns-then-words-eq-LARGE_WORDS c = sym (width-large _ c.if-words-eq-LARGE_WORDS.true)
+
+pub returns : goal.returns
+returns c = sym (width_small _ c.if-words-eq-LARGE_WORDS.false)
