@@ -85,6 +85,7 @@ places-length (f ∷ fs) = ap suc (places-length fs)
 
 in-places : {f : Finding} (fs : List Finding) → One f fs → One (place_of f) (places fs)
 unfolding places
+in-places {f = f} [] x = elim x [ ]
 in-places (g ∷ fs) first = first
 in-places (g ∷ fs) (later x) = later (in-places fs x)
 
