@@ -48,7 +48,7 @@ module _ (n : Names) where
   right-first d ds [] e r = absurd (true≢false (sym r.fit))
   right-first d ds (f ∷ fs) e r =
       let z = lower-zeros (field_fault n d f) _ r.faults in
-      (z.0, record { fit = rw e at r.fit; faults = rw e at z.1 })
+      (z.0, record { fit = rw (e, fits) at r.fit; faults = rw e at z.1 })
 
   -- a name that is one of those declared
   pub name-declared : (names : List Field) (f : Field) → name_fault names f ≡ 0 → place f names < length names

@@ -1,0 +1,8 @@
+-- `field::words::reserved` meets its contract. Assumes nothing.
+use mathlib.Core.Path.{ap, ◌∙◌}
+use Rattle.field.specs.own.Code.{is_word}
+use Rattle.field.specs.laws.Words.{word-reserved}
+use Rattle.field.proofs.words.reserved.Goals as goal
+
+pub returns : goal.returns
+returns c = c.is_word.ensures ∙ ap is_word c.operator.ensures ∙ word-reserved _
