@@ -128,7 +128,7 @@ several-articles {W} {n = n} {s} p q both u x c f d l here a = decides-iff (enou
 pub several-some : {n : Counts} {W : ℕ} {s q : List ℕ} {P : ℕ → Type 0} (u : RoleUse) (k x : ℕ) → 1 ≤ k → Marks n.items q (Reached (Linked (Holds W n s) (turned u)) P) → DeclaredItem n x
     → ¬ (RowHas q x) → ¬ (Articles (Holds W n s) n k (Found (Holds W n s) u P x))
 several-some u zero x l m lx h a = absurd (omega arith)
-several-some u (suc k) x l m lx h a = let b = some_item a in h (m.whole x lx (record { from = b.0; has = b.2.1; link = turned-way _ u.inverse u.role.0 x b.0 b.2.0 }))
+several-some {n = n} {W = W} {s = s} u (suc k) x l m lx h a = let b = some_item a in h (m.whole x lx (record { from = b.0; has = b.2.1; link = turned-way (Holds W n s) u.inverse u.role.0 x b.0 b.2.0 }))
 
 -- fewer leaders than articles asked for
 pub several-none : {W m k : ℕ} {n : Counts} {s r lead : List ℕ} (p q both : List ℕ) (u : RoleUse) → ClosedStore W n s → Marks n.items q (Reached (Linked (Holds W n s) (turned u)) (RowHas p))

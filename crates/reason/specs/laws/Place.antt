@@ -41,12 +41,12 @@ off-on m j i e = (go (eqb i j) e, λ q. false≢true (sym (off_at m j) ∙ ap (o
     go false f = f
 
 module _ {A : Type 0} where
-  placed-from : {x : A} {i j : ℕ} {xs : List A} → Placed x j i xs → i ≤ j
+  placed-from : {x : A} {j i : ℕ} {xs : List A} → Placed x j i xs → i ≤ j
   placed-from here = omega arith
   placed-from (there p) = omega (arith, placed-from p)
 
   -- a place has one element
-  pub placed_same : {x y : A} {i j : ℕ} {xs : List A} → Placed x j i xs → Placed y j i xs → x ≡ y
+  pub placed_same : {x y : A} {j i : ℕ} {xs : List A} → Placed x j i xs → Placed y j i xs → x ≡ y
   placed_same here here = refl
   placed_same here (there q) = absurd (omega (arith, placed-from q))
   placed_same (there p) here = absurd (omega (arith, placed-from p))
@@ -85,9 +85,9 @@ module _ {A : Type 0} where
           by (inr r) = more (f r)
       go false e q f = more (f q)
 
-  pub picked-one : {x : A} {i j : ℕ} {xs : List A} (m : ℕ → Bool) → Placed x j i xs → m j ≡ true → One x (picked_from m i xs)
-  picked-one {x} {i} m (here {xs = xs}) e = rw (picked_first m i x xs true e) first
-  picked-one {x} {i} m (there {y = y} {xs = xs} p) e = go (m i) refl (picked-one m p e)
+  pub picked-one : {x : A} {j i : ℕ} {xs : List A} (m : ℕ → Bool) → Placed x j i xs → m j ≡ true → One x (picked_from m i xs)
+  picked-one {x} {i = i} m (here {xs = xs}) e = rw (picked_first m i x xs true e) first
+  picked-one {x} {i = i} m (there {y = y} {xs = xs} p) e = go (m i) refl (picked-one m p e)
     where
       go : (b : Bool) → m i ≡ b → One x (picked_from m (suc i) xs) → One x (picked_from m i (y ∷ xs))
       go true q o = rw (picked_first m i y xs true q) (later o)
@@ -139,10 +139,10 @@ module _ {A : Type 0} where
           let t : picked_from m (suc i) xs ≡ bf ++ out ∷ after = cc in
           skip true (bf ++ after) (z ∷ (bf ++ after)) q (λ x o. subst (λ (w : A). One x (w ∷ (bf ++ after))) (sym s) o) (f bf t)
 
-  picked-fewer : {x : A} {i j : ℕ} {xs : List A} (m : ℕ → Bool) → Placed x j i xs → m j ≡ true → Part (picked_from (off m j) i xs) (picked_from m i xs) × (length (picked_from (off m j) i xs) < length (picked_from m i xs))
-  picked-fewer {x} {i} m (here {xs = xs}) e =
+  picked-fewer : {x : A} {j i : ℕ} {xs : List A} (m : ℕ → Bool) → Placed x j i xs → m j ≡ true → Part (picked_from (off m j) i xs) (picked_from m i xs) × (length (picked_from (off m j) i xs) < length (picked_from m i xs))
+  picked-fewer {x} {i = i} m (here {xs = xs}) e =
       rw (picked_first m i x xs true e, picked_first (off m i) i x xs false (off_at m i), picked_same (off m i) m (suc i) xs (λ j h. off-other m i j (λ q. omega arith))) (leave (part-all (picked_from m (suc i) xs)), omega arith)
-  picked-fewer {x} {i} {j} m (there {y = y} {xs = xs} p) e = go (m i) refl (picked-fewer m p e)
+  picked-fewer {x} {j} {i} m (there {y = y} {xs = xs} p) e = go (m i) refl (picked-fewer m p e)
     where
       Fewer : ℕ → List A → Type 0
       Fewer k ys = Part (picked_from (off m j) k ys) (picked_from m k ys) × (length (picked_from (off m j) k ys) < length (picked_from m k ys))

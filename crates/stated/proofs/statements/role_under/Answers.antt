@@ -1,0 +1,13 @@
+-- `stated::statements::role_under` meets its contract. Assumes nothing.
+use mathlib.Core.Path.{◌∙◌, ap}
+use Rattle.text.specs.Split.{fields}
+use Rattle.field.specs.own.Table.{names_of, table_of}
+use Rattle.stated.specs.Stated.{role_use_of}
+use Rattle.stated.specs.laws.Stated.{role-under-is}
+use Rattle.stated.specs.laws.Fields.{field-from, first-from}
+use Rattle.stated.proofs.statements.role_under.Goals as goal
+
+pub returns : goal.returns
+returns c = let x = c.args in
+    let n = names_of x.sheet.now (table_of x.names.now x.counts) in
+    role-under-is c.turn-inverse.ensures (c.role_use-a.ensures ∙ ap (role_use_of n) (first-from (fields x.line.now) x.from)) (c.role_use-b.ensures ∙ ap (role_use_of n) (field-from (fields x.line.now) x.from 1))
