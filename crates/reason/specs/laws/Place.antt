@@ -45,12 +45,15 @@ module _ {A : Type 0} where
   placed-from here = omega arith
   placed-from (there p) = omega (arith, placed-from p)
 
+  placed-equal : {x y : A} {j i k : ℕ} {xs : List A} → Placed x j i xs → Placed y j k xs → i ≡ k → x ≡ y
+  placed-equal here here e = refl
+  placed-equal here (there q) e = absurd (omega (arith, placed-from q))
+  placed-equal (there p) here e = absurd (omega (arith, placed-from p))
+  placed-equal (there p) (there q) e = placed-equal p q (ap suc e)
+
   -- a place has one element
   pub placed_same : {x y : A} {j i : ℕ} {xs : List A} → Placed x j i xs → Placed y j i xs → x ≡ y
-  placed_same here here = refl
-  placed_same here (there q) = absurd (omega (arith, placed-from q))
-  placed_same (there p) here = absurd (omega (arith, placed-from p))
-  placed_same (there p) (there q) = placed_same p q
+  placed_same p q = placed-equal p q refl
 
   -- the element that a list has at a place
   pub placed_at : (xs : List A) (i j k : ℕ) (d : A) → k < length xs → j ≡ i + k → Placed (get_or xs k d) j i xs

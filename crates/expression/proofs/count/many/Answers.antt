@@ -2,6 +2,7 @@
 use native.Mathlib.Omega.{arith}
 use borrow.Author.Rules.{rules}
 use Rattle.expression.specs.laws.Many.{none-marks, some-marks, turned-marks}
+use Rattle.store.specs.Layout.{Holds}
 use Rattle.expression.proofs.count.many.Goals as goal
 
 pub returns-then-k-eq0 : goal.returns-then-k-eq0
@@ -21,4 +22,4 @@ pub returns-then-k-eq1 : goal.returns-then-k-eq1
 returns-then-k-eq1 c = some-marks c.args.u c.if-k-eq1.true c.turned-back.ensures c.step_row-some.ensures
 
 pub several-requires : goal.several-requires
-several-requires c = (c.requires.0, c.requires.1, omega (arith, c.if-k-eq0.false), turned-marks _ c.args.u c.turned-back.ensures c.step_row-some.ensures)
+several-requires c = (c.requires.0, c.requires.1, omega (arith, c.if-k-eq0.false), turned-marks (Holds c.args.at.width c.args.counts c.args.words.now) c.args.u c.turned-back.ensures c.step_row-some.ensures)
