@@ -18,7 +18,7 @@ pub bounds-answers-i : goal.bounds-answers-i
 bounds-answers-i c = omega (arith, c.loop-i.invariant.1.long)
 
 pub loop-i-preserved : goal.loop-i-preserved
-loop-i-preserved c = (omega arith, answered-more c.loop-i.invariant.1 (omega (arith, c.loop-i.invariant.1.long)) (turn_at c.statement-s.ensures (sym (to_z-of_z w64 c.turn.result (record { sfits = omega (arith, c.turn.type-inv) }))) c.turn.ensures) (λ i. (c.type_inv.words i).fits))
+loop-i-preserved c = (omega arith, answered-more c.loop-i.invariant.1 (omega (arith, c.loop-i.invariant.1.long)) (turn_at c.statement-s.ensures (sym (to_z-of_z w64 c.turn.result (record { sfits = omega (arith, c.turn.type_inv) }))) c.turn.ensures) (λ i. (c.type_inv.words i).fits))
 
 pub shape_of-words : goal.shape_of-words
 shape_of-words c = c.loop-i.invariant.1.closed.long ∙ sym c.requires.1.long

@@ -24,7 +24,7 @@ pub plain-field : (d : Due) (ds : List Due) (fs : List Field) → is_expr d ≡ 
     → (fits ds (drop 1 fs) ≡ true) × (nodes_in (d ∷ ds) fs ≡ nodes_in ds (drop 1 fs)) × (length fs ≡ suc (length (drop 1 fs)))
 unfolding fits nodes_in
 plain-field d ds [] e h = absurd (true≢false (sym h))
-plain-field d ds (f ∷ fs) e h = (rw e at h, rw e (omega arith), refl)
+plain-field d ds (f ∷ fs) e h = (rw (e, fits) at h, rw (e, nodes_in) (omega arith), refl)
 
 pub drop-two : (fs : List Field) → drop 2 fs ≡ drop 1 (drop 1 fs)
 drop-two [] = refl
