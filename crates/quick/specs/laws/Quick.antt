@@ -52,7 +52,7 @@ module _ (n : Names) where
 
   clear-more : (d : Due) (ds : List Due) (f : Field) (fs : List Field) → is_expr d ≡ false → field_fault n d f ≡ 0 → Clear n ds fs → Clear n (d ∷ ds) (f ∷ fs)
   unfolding fits field_faults nodes_in
-  clear-more d ds f fs e z c = record { fit = rw e c.fit; faults = rw (e, z) (sym (lower-none 0 _ refl) ∙ c.faults); nodes = rw (e, c.nodes) (omega arith) }
+  clear-more d ds f fs e z c = record { fit = rw (e, fits) c.fit; faults = rw (e, z) (sym (lower-none 0 _ refl) ∙ c.faults); nodes = rw (e, nodes_in, c.nodes) (omega arith) }
 
   clear-two : (a b : Due) (fs : List Field) → is_expr a ≡ false → is_expr b ≡ false → length fs ≡ 2 → field_fault n a (at 0 fs) ≡ 0 → field_fault n b (at 1 fs) ≡ 0 → Clear n (a ∷ b ∷ []) fs
   clear-two a b [] e g h x y = absurd (omega arith)
@@ -172,7 +172,7 @@ fit_none (f ∷ fs) e = absurd (true≢false (sym e))
 fit-more : (d : Due) (ds : List Due) (k : ℕ) (fs : List Field) → is_expr d ≡ false → ((gs : List Field) → fits ds gs ≡ true → length gs ≡ k) → fits (d ∷ ds) fs ≡ true → length fs ≡ k + 1
 unfolding fits
 fit-more d ds k [] e h q = absurd (true≢false (sym q))
-fit-more d ds k (f ∷ fs) e h q = omega (arith, h fs (rw e at q))
+fit-more d ds k (f ∷ fs) e h q = omega (arith, h fs (rw (e, fits) at q))
 
 fit-two : (a b : Due) (fs : List Field) → is_expr a ≡ false → is_expr b ≡ false → fits (a ∷ b ∷ []) fs ≡ true → length fs ≡ 2
 fit-two a b fs e g = fit-more a (b ∷ []) 1 fs e (λ gs. fit-more b [] 0 gs g fit_none)

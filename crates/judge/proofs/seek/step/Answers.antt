@@ -1,0 +1,6 @@
+-- `judge::seek::step` meets its contract. Assumes nothing.
+use Rattle.judge.specs.laws.Search.{stepped}
+use Rattle.judge.proofs.seek.step.Goals as goal
+
+pub returns : goal.returns
+returns c = rw c.search_at.ensures (stepped c.requires (rw c.cursor_of.ensures at c.advance-next.ensures))

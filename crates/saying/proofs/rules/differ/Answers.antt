@@ -1,0 +1,13 @@
+-- `saying::rules::differ` meets its contract. Assumes nothing.
+use mathlib.Core.Path.{◌∙◌, ap, ap₂}
+use Rattle.text.specs.Split.{fields}
+use Rattle.rule.specs.declared.Head.TheVariants as head
+use Rattle.field.specs.own.Table.{names_of, table_of}
+use Rattle.stated.specs.Stated.{item_of}
+use Rattle.stated.specs.laws.Fields.{field-from, first-from}
+use Rattle.saying.proofs.rules.differ.Goals as goal
+
+pub returns : goal.returns
+returns c = let x = c.args in
+    let n = names_of x.sheet.now (table_of x.names.now x.counts) in
+    ap₂ head.Differ (c.item-a.ensures ∙ ap (item_of n) (first-from (fields x.line.now) x.from)) (c.item-b.ensures ∙ ap (item_of n) (field-from (fields x.line.now) x.from 1))
