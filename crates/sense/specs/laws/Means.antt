@@ -50,7 +50,7 @@ news-met : (c : ℕ → ℕ → Body) (R : RoleUse) (u n t v : ℕ) (s : Met) �
 news-met c R u zero t v s le = tt
 news-met c R u (suc n) t v s le = (
   (omega (arith, suc-mul n (u + 1)), mono (c v (v + 1) ⊕ turns c R (u + 1) n t (v + (u + 1))) (meet (link R t v) s) v (link-met R t v s)),
-  rw (meets-⊕ (c v (v + 1)) (turns c R (u + 1) n t (v + (u + 1))) (meet (link R t v) s)) (news-met c R u n t (v + (u + 1)) (meets (c v (v + 1)) (meet (link R t v) s)) (omega (arith, suc-mul n (u + 1)))),
+  subst (λ (m : Met). EachOf (λ z. (z < first_item) × m z) (news (u + 1) n (v + (u + 1)))) (sym (meets-⊕ (c v (v + 1)) (turns c R (u + 1) n t (v + (u + 1))) (meet (link R t v) s))) (news-met c R u n t (v + (u + 1)) (meets (c v (v + 1)) (meet (link R t v) s)) (omega (arith, suc-mul n (u + 1)))),
 )
 
 length-map-news : (f : ℕ → ℕ) (u n v : ℕ) → length (map f (news u n v)) ≡ n
@@ -63,6 +63,7 @@ Apart P [] = Unit {0}
 Apart P (b ∷ bs) = EachOf (P b) bs × Apart P bs
 
 each-one : (P : ℕ → Type 0) (bs : List ℕ) → EachOf P bs → (b : ℕ) → One b bs → P b
+each-one P [] h x o = elim o [ ]
 each-one P (b ∷ bs) h _ first = h.0
 each-one P (b ∷ bs) h x (later o) = each-one P bs h.1 x o
 

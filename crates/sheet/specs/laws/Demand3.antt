@@ -26,7 +26,7 @@ use Rattle.sheet.specs.laws.Unique.{from-unique}
 -- what reading leaves is what the outcome leaves
 reads-leaves : {W : ℕ} {sheet s t : List ℕ} {r : Reading} {o : Outcome} → Sizes W s → outcome W sheet ≡ o → Reads sheet s t r → Leaves W o s t
 reads-leaves l e (wrong_size z q) = absurd (z (l.long ∙ sym (ap size l.width)))
-reads-leaves {W} {s = s} {t = t} l e (refusedRead h i p) = subst (λ (o : Outcome). Leaves W o s t) (sym (rw l.width at i) ∙ e) (rw l.width at p)
+reads-leaves {W} {s = s} {t = t} l e (refusedRead {n = n} {k = k} {x = x} h i p) = subst (λ (o : Outcome). Leaves W o s t) (sym (rw l.width at i) ∙ e) (subst (λ (w : ℕ). Leaves w (refused n k x) s t) l.width p)
 reads-leaves {W} {s = s} {t = t} l e (acceptedRead h i p a) = subst (λ (o : Outcome). Leaves W o s t) (sym (rw l.width at i) ∙ e) (rw l.width at p)
 
 held_same : {W : ℕ} (x y : Said) {t v : List ℕ} → Words 64 t → Words 64 v → counts_of x.names ≡ counts_of y.names → SameStatements x y → Held W x t → Held W y v → t ≡ v

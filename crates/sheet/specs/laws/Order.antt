@@ -67,7 +67,7 @@ faultless-accepted (right z f) = rw (eq-eqb _ _ z) (faultless-accepted f)
 faultless-split : {k : ℕ} {s : Said} (front : List (List ℕ)) {ls : List (List ℕ)} → Faultless k s (front ++ ls) → Faultless k s front × Faultless (number_after k front) (lines_said k s front) ls
 unfolding lines_said number_after
 faultless-split [] f = (done, f)
-faultless-split (l ∷ front) (right z f) = let g = faultless-split front f in (right z g.0, g.1)
+faultless-split {k = k} {s = s} (l ∷ front) {ls = ls} (right z f) = let g = faultless-split {k = k + 1} front f in (right z g.0, g.1)
 
 faultless-join : {k : ℕ} {s : Said} {front ls : List (List ℕ)} → Faultless k s front → Faultless (number_after k front) (lines_said k s front) ls → Faultless k s (front ++ ls)
 unfolding lines_said number_after

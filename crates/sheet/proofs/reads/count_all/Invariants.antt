@@ -1,0 +1,17 @@
+-- `sheet::reads::count_all` meets its contract: the findings of n rules are counted, and q comes next. Assumes nothing.
+use mathlib.Core.Path.{◌≡◌}
+use mathlib.Core.List.{List}
+use Prim.Native.Nat.{◌+◌, ◌*◌, ◌-◌, ◌≤◌}
+use lib.ListN.{length}
+use Rattle.sheet.specs.own.Pass.{Counted}
+use Rattle.sheet.specs.Said.{Said, SheetRule, outcome}
+use Rattle.sheet.specs.Said.Outcome.{accepted}
+use Rattle.field.specs.own.Table.{names_of, table_of}
+use Rattle.sheet.specs.laws.Count.{Turn}
+use Rattle.sheet.proofs.reads.count_all.Given as goal
+
+abbrev pub invariant-loop-q : goal.invariant-loop-q
+invariant-loop-q l = ((x : Said) → outcome l.at.width l.sheet ≡ accepted x → x.names ≡ names_of l.sheet (table_of l.names l.counts) → Turn l.sheet (table_of l.names l.counts) x (λ (done : List SheetRule). Counted l.at.width x l.words done l.total) l.q l.n) × (l.n ≤ l.q.past) × (l.q.past ≤ length l.sheet + 2) × (l.total ≤ 262656 * l.n)
+
+abbrev pub decreases-loop-q : goal.decreases-loop-q
+decreases-loop-q l = length l.sheet + 2 - l.q.past
