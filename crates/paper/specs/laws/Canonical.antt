@@ -1,5 +1,5 @@
 -- The model whose named elements are the articles: it satisfies exactly what follows. Assumes nothing.
-use Rattle.std.specs.Prelude.{◌≡◌, ◌↔◌, ℕ}
+use Rattle.std.specs.Prelude.{◌≡◌, ◌↔◌, ℕ, refl}
 use Rattle.std.proofs.Math.Path.{ap}
 use Rattle.std.proofs.Math.Bool.{true, false}
 use Rattle.store.specs.declared.Counts.{Counts}
@@ -44,11 +44,17 @@ nameless-under (nameless h) = h
 joined-link : {C : Cell → Type 0} {r a b : ℕ} → Joined C r (article a) (article b) → C (Link r a b)
 joined-link (linked h) = h
 
+joined-forth-at : {C : Cell → Type 0} {r q p : ℕ} → Joined C r (start q) (finish p) → q ≡ p → C (RoleUnder q false r)
+joined-forth-at (forth h) e = h
+
 joined-forth : {C : Cell → Type 0} {r q : ℕ} → Joined C r (start q) (finish q) → C (RoleUnder q false r)
-joined-forth (forth h) = h
+joined-forth j = joined-forth-at j refl
+
+joined_back-at : {C : Cell → Type 0} {r q p : ℕ} → Joined C r (finish q) (start p) → q ≡ p → C (RoleUnder q true r)
+joined_back-at (back h) e = h
 
 joined_back : {C : Cell → Type 0} {r q : ℕ} → Joined C r (finish q) (start q) → C (RoleUnder q true r)
-joined_back (back h) = h
+joined_back j = joined_back-at j refl
 
 article-same : {a b : ℕ} → article a ≡ article b → a ≡ b
 article-same e = cc

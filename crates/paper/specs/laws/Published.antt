@@ -1,6 +1,6 @@
 -- The findings are the published reading. Assumes nothing.
 use Rattle.std.specs.Prelude.{◌≡◌, refl, ◌↔◌, List, [], ◌∷◌, ℕ, length}
-use Rattle.std.proofs.Math.Logic.{Iff·trans}
+use mathlib.Core.Logic.Iff
 use Rattle.std.proofs.Common.{arith}
 use Rattle.logic.specs.Number.{One}
 use Rattle.logic.specs.Number.One.{first}
@@ -59,7 +59,7 @@ no-finding {C} {n} {k} {u} {fs} f = (λ none. empty fs f.sound none, λ e x y b.
 
 module _ {W : ℕ} {n : Counts} {Given : Cell → Type 0} {s : List ℕ} (k : Keeps W n Given s) where
   store-satisfied : {j : ℕ} {u : Rule} {fs : List Finding} → Judged W n u s → Findings (Holds W n s) n j u fs → ICSatisfies n Given u ↔ (length fs ≡ 0)
-  store-satisfied d f = Iff·trans (theorem-c (settled-store k) d.form d.within) (no-finding f)
+  store-satisfied d f = Iff.trans (theorem-c (settled-store k) d.form d.within) (no-finding f)
 
   store-total : {u : Rule} {m : ℕ} → Totals W n u s (Count m) → ICSatisfies n Given u ↔ (m ≡ 0)
   store-total (counted d f) = store-satisfied d f
@@ -78,7 +78,7 @@ module _ {W : ℕ} {n : Counts} {Given : Cell → Type 0} {s : List ℕ} (k : Ke
         (λ o. r.0 (f.sound (finding_of j x y) o).1, λ v. f.whole x y (r.1 v));
     satisfied = store-satisfied;
     total = store-total;
-    query = λ d f c. Iff·trans (store-satisfied d f) (no_answer (demand-2-query (Holds W n s) n c f));
+    query = λ d f c. Iff.trans (store-satisfied d f) (no_answer (demand-2-query (Holds W n s) n c f));
   }
 
 -- and so for every closed store, with its own cells as those given

@@ -55,6 +55,7 @@ module _ {n : Counts} where
 
   -- a number states a cell of a line
   number-stated : {ks : List ℕ} {ls : List SheetStatement} {k : ℕ} → Numbers n ks ls → One k ks → Stated (statements_of ls) (cell_at k)
+  number-stated {k = k} none o = elim o [ ]
   number-stated {ls = ls} (more {l = l} e w m) first = subst (λ (c : Cell). Stated (statements_of ls) c) (sym e) (stated first)
   number-stated (more e w m) (later o) = stated-more (number-stated m o)
 

@@ -1,5 +1,5 @@
 -- What follows grows with the lines it follows from. Assumes nothing.
-use Rattle.std.specs.Prelude.{◌≡◌, ◌⊎◌, List, ◌∷◌}
+use Rattle.std.specs.Prelude.{◌≡◌, ◌⊎◌, List, [], ◌∷◌}
 use Rattle.std.proofs.Common.{sym, subst, inl, inr}
 use Rattle.logic.specs.Number.{One}
 use Rattle.logic.specs.Number.One.{first, later}
@@ -25,6 +25,7 @@ line-statement first = first
 line-statement (later o) = later (line-statement o)
 
 statement-line : {s : Statement} (ls : List SheetStatement) → One s (statements_of ls) → (l : SheetStatement) × One l ls × (l.statement ≡ s)
+statement-line {s = s} [] o = elim o [ ]
 statement-line {s} (k ∷ ls) o = by (one-cases o) (λ p. statement-line ls p)
   where
     by : (s ≡ k.statement) ⊎ One s (statements_of ls) → (One s (statements_of ls) → (l : SheetStatement) × One l ls × (l.statement ≡ s)) → (l : SheetStatement) × One l (k ∷ ls) × (l.statement ≡ s)

@@ -1,0 +1,37 @@
+-- `why::answer` meets its contract. Assumes nothing.
+use mathlib.Core.Path.{refl}
+use Rattle.store.specs.Cell.{cell_of}
+use Rattle.store.specs.laws.Laid.{laid_of}
+use Rattle.store.specs.laws.Width.{laid_by, width-wide}
+use Rattle.sheet.specs.Promise.Reads.{wrong_size}
+use Rattle.sheet.specs.laws.Count.{opens-judges}
+use Rattle.sheet.specs.laws.Width.{width_some}
+use Rattle.why.specs.Promise.Explains.{refused}
+use Rattle.why.specs.laws.Explained.{explains-asked, explains-found, explains-not, explains-refused}
+use Rattle.why.specs.laws.Gather.{searched-by}
+use Rattle.why.proofs.answer.Goals as goal
+
+pub returns-then-not-long : goal.returns-then-not-long
+returns-then-not-long c = refused (wrong_size (c.long.ensures.fails c.if-not-long.true) refl) refl
+
+pub fill-e-requires : goal.fill-e-requires
+fill-e-requires c = let e = c.layout_of-at.ensures in (rw e c.requires.0, laid_by e (c.long.ensures.holds c.if-not-long.false), rw e (width_some _))
+
+pub returns-then-e-ne0 : goal.returns-then-e-ne0
+returns-then-e-ne0 c = explains-refused (rw c.layout_of-at.ensures at c.fill-e.ensures) (c.long.ensures.holds c.if-not-long.false) (cell_of c.args.cell) c.args.room.now c.if-e-ne0.true
+
+pub told-requires : goal.told-requires
+told-requires c = let s = (opens-judges c.fill-e.ensures c.if-e-ne0.false).store in
+    (laid_of c.layout_of-at.ensures (rw c.layout_of-at.ensures at s.long) (width-wide _), s)
+
+pub returns-then-not-told : goal.returns-then-not-told
+returns-then-not-told c = explains-not (rw c.layout_of-at.ensures at c.fill-e.ensures) (c.long.ensures.holds c.if-not-long.false) (cell_of c.args.cell) c.args.room.now c.if-e-ne0.false ((rw c.layout_of-at.ensures at c.told.ensures).fails c.if-not-told.true)
+
+pub list-requires : goal.list-requires
+list-requires c = (
+  explains-asked (rw c.layout_of-at.ensures at c.fill-e.ensures) (c.long.ensures.holds c.if-not-long.false) (cell_of c.args.cell) c.args.room.now c.if-e-ne0.false ((rw c.layout_of-at.ensures at c.told.ensures).holds c.if-not-told.false),
+  searched-by c.layout_of-at.ensures (width_some _) (opens-judges c.fill-e.ensures c.if-e-ne0.false).store.fits c.requires.1,
+)
+
+pub returns : goal.returns
+returns c = explains-found (rw c.layout_of-at.ensures at c.fill-e.ensures) (c.long.ensures.holds c.if-not-long.false) (cell_of c.args.cell) c.args.room.now c.if-e-ne0.false c.list.ensures
