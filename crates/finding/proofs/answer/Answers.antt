@@ -1,0 +1,37 @@
+-- `finding::answer` meets its contract. Assumes nothing.
+use mathlib.Core.Path.{refl}
+use borrow.Author.Tests.{not-false, not-true}
+use Rattle.store.specs.laws.Laid.{laid_of}
+use Rattle.store.specs.laws.Width.{laid_by, width-wide}
+use Rattle.sheet.specs.Promise.Reads.{wrong_size}
+use Rattle.sheet.specs.laws.Count.{opens-judges}
+use Rattle.sheet.specs.laws.Width.{width_some}
+use Rattle.why.specs.laws.Gather.{searched-by}
+use Rattle.finding.specs.Finding.ExplainsFinding.{refused}
+use Rattle.finding.specs.laws.Explained.{finding-asked, finding-found, finding-not, finding-refused}
+use Rattle.finding.proofs.answer.Goals as goal
+
+pub returns-then-not-long : goal.returns-then-not-long
+returns-then-not-long c = refused (wrong_size (c.long.ensures.fails c.if-not-long.true) refl) refl
+
+pub fill-e-requires : goal.fill-e-requires
+fill-e-requires c = let e = c.layout_of-at.ensures in (rw e c.requires.0, laid_by e (c.long.ensures.holds c.if-not-long.false), rw e (width_some _))
+
+pub returns-then-e-ne0 : goal.returns-then-e-ne0
+returns-then-e-ne0 c = finding-refused (rw c.layout_of-at.ensures at c.fill-e.ensures) (c.long.ensures.holds c.if-not-long.false) c.args.k c.args.a.0 c.args.room.now c.if-e-ne0.true
+
+pub broken-s-requires : goal.broken-s-requires
+broken-s-requires c = let j = opens-judges c.fill-e.ensures c.if-e-ne0.false in
+    (j, laid_of c.layout_of-at.ensures (rw c.layout_of-at.ensures at j.store.long) (width-wide _))
+
+pub returns-then-not-s : goal.returns-then-not-s
+returns-then-not-s c = finding-not (rw c.layout_of-at.ensures at c.fill-e.ensures) (c.long.ensures.holds c.if-not-long.false) c.args.k c.args.a.0 c.args.room.now c.if-e-ne0.false c.broken-s.result (rw c.layout_of-at.ensures at c.broken-s.ensures) (not-true _ c.if-not-s.true)
+
+pub list-total-requires : goal.list-total-requires
+list-total-requires c = (
+  finding-asked (rw c.layout_of-at.ensures at c.fill-e.ensures) (c.long.ensures.holds c.if-not-long.false) c.args.k c.args.a.0 c.args.room.now c.if-e-ne0.false c.broken-s.result (rw c.layout_of-at.ensures at c.broken-s.ensures) (not-false _ c.if-not-s.false),
+  searched-by c.layout_of-at.ensures (width_some _) (opens-judges c.fill-e.ensures c.if-e-ne0.false).store.fits c.requires.1,
+)
+
+pub returns : goal.returns
+returns c = finding-found (rw c.layout_of-at.ensures at c.fill-e.ensures) (c.long.ensures.holds c.if-not-long.false) c.args.k c.args.a.0 c.args.room.now c.if-e-ne0.false c.broken-s.result (rw c.layout_of-at.ensures at c.broken-s.ensures) (not-false _ c.if-not-s.false) c.list-total.ensures
