@@ -1,0 +1,12 @@
+-- `answer::reply::reply` meets its contract. Assumes nothing.
+use mathlib.Core.Path.{refl}
+use native.Mathlib.Omega.{arith}
+use Rattle.store.specs.Layout.{small}
+use Rattle.why.specs.laws.Gather.{lent-blank}
+use Rattle.answer.proofs.reply.reply.Goals as goal
+
+pub answer-requires : goal.answer-requires
+answer-requires c = (refl, omega arith, omega arith, omega arith, lent-blank small (omega arith))
+
+pub returns : goal.returns
+returns c = c.answer.ensures

@@ -1,0 +1,12 @@
+-- `answer::reply::reply_large` meets its contract. Assumes nothing.
+use mathlib.Core.Path.{refl}
+use native.Mathlib.Omega.{arith}
+use Rattle.store.specs.Layout.{large}
+use Rattle.why.specs.laws.Gather.{lent-blank}
+use Rattle.answer.proofs.reply.reply_large.Goals as goal
+
+pub answer-requires : goal.answer-requires
+answer-requires c = (refl, omega arith, omega arith, omega arith, lent-blank large (omega arith))
+
+pub returns : goal.returns
+returns c = c.answer.ensures
