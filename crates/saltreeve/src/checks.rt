@@ -13,8 +13,7 @@ fn check_aside(sheet: &[u8], room: &mut [u8]) -> i64
 }
 
 // Checks a sheet: writes the text that is printed for it into the lent room, or nothing if it is longer than the room.
-#[unsafe(no_mangle)]
-pub extern "C" fn saltreeve_check(sheet: &[u8], room: &mut [u8]) -> i64
+pub fn saltreeve_check(sheet: &[u8], room: &mut [u8]) -> i64
     ensures { Checks sheet.now room.old room.new result }
 {
     if Report::BYTES <= room.len() {
@@ -34,8 +33,7 @@ fn check_in_aside(sheet: &[u8], words: &mut [u64], room: &mut [u8]) -> i64
 }
 
 // The same with a lent store, into which the sheet is read, also where the room is too short.
-#[unsafe(no_mangle)]
-pub extern "C" fn saltreeve_check_in(sheet: &[u8], words: &mut [u64], room: &mut [u8]) -> i64
+pub fn saltreeve_check_in(sheet: &[u8], words: &mut [u64], room: &mut [u8]) -> i64
     ensures { ChecksIn sheet.now words.old words.new room.old room.new result }
 {
     if report::page::most(words) <= room.len() {

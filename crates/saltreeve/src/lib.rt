@@ -20,13 +20,7 @@ fn add(words: &mut [u64], n: Counts, s: Statement) -> i64
 }
 
 // Makes the lent words a fresh store.
-#[unsafe(no_mangle)]
-pub extern "C" fn saltreeve_fresh(
-    words: &mut [u64],
-    items: usize,
-    concepts: usize,
-    roles: usize,
-) -> i64
+pub fn saltreeve_fresh(words: &mut [u64], items: usize, concepts: usize, roles: usize) -> i64
     ensures { FreshCode (counts items concepts roles) words.old words.new result }
 {
     let a = closure::fresh(
@@ -41,8 +35,7 @@ pub extern "C" fn saltreeve_fresh(
 }
 
 // Adds "a is the same as b".
-#[unsafe(no_mangle)]
-pub extern "C" fn saltreeve_add_same(
+pub fn saltreeve_add_same(
     words: &mut [u64],
     items: usize,
     concepts: usize,
@@ -65,8 +58,7 @@ pub extern "C" fn saltreeve_add_same(
 }
 
 // Adds "the concept is under the other".
-#[unsafe(no_mangle)]
-pub extern "C" fn saltreeve_add_under(
+pub fn saltreeve_add_under(
     words: &mut [u64],
     items: usize,
     concepts: usize,
@@ -89,8 +81,7 @@ pub extern "C" fn saltreeve_add_under(
 }
 
 // Adds "the role is under the other", or under its inverse if `inverse` is not 0.
-#[unsafe(no_mangle)]
-pub extern "C" fn saltreeve_add_role_under(
+pub fn saltreeve_add_role_under(
     words: &mut [u64],
     items: usize,
     concepts: usize,
@@ -114,8 +105,7 @@ pub extern "C" fn saltreeve_add_role_under(
 }
 
 // Adds "the item is in the concept".
-#[unsafe(no_mangle)]
-pub extern "C" fn saltreeve_add_in(
+pub fn saltreeve_add_in(
     words: &mut [u64],
     items: usize,
     concepts: usize,
@@ -138,8 +128,7 @@ pub extern "C" fn saltreeve_add_in(
 }
 
 // Adds "the role links a to b".
-#[unsafe(no_mangle)]
-pub extern "C" fn saltreeve_add_link(
+pub fn saltreeve_add_link(
     words: &mut [u64],
     items: usize,
     concepts: usize,

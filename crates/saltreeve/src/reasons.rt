@@ -5,8 +5,7 @@ ghost use Rattle.saltreeve.specs.Why.{ExplainCode, FindingCode, Whys};
 use store::Item;
 
 // Answers a question about a sheet: writes the text to the lent room, or nothing if it is longer than the room.
-#[unsafe(no_mangle)]
-pub extern "C" fn saltreeve_why(sheet: &[u8], question: &[u8], room: &mut [u8]) -> i64
+pub fn saltreeve_why(sheet: &[u8], question: &[u8], room: &mut [u8]) -> i64
     ensures { Whys sheet.now question.now room.old room.new result }
 {
     let n = answer::reply::reply(sheet, question, room);
@@ -17,8 +16,7 @@ pub extern "C" fn saltreeve_why(sheet: &[u8], question: &[u8], room: &mut [u8]) 
 }
 
 // Reads a sheet into the lent store, and lists the lines of a reason for a cell.
-#[unsafe(no_mangle)]
-pub extern "C" fn saltreeve_explain(
+pub fn saltreeve_explain(
     sheet: &[u8],
     words: &mut [u64],
     kind: usize,
@@ -33,8 +31,7 @@ pub extern "C" fn saltreeve_explain(
 }
 
 // Reads a sheet into the lent store, and lists the lines of a reason for an item's being in the left concept of a rule that it breaks.
-#[unsafe(no_mangle)]
-pub extern "C" fn saltreeve_explain_finding(
+pub fn saltreeve_explain_finding(
     sheet: &[u8],
     words: &mut [u64],
     rule: usize,

@@ -5,8 +5,7 @@ ghost use Rattle.saltreeve.specs.Code.{counts};
 use store::Counts;
 
 // Finds what breaks a rule, and writes the findings to the lent list as far as it reaches.
-#[unsafe(no_mangle)]
-pub extern "C" fn saltreeve_findings(
+pub fn saltreeve_findings(
     words: &[u64],
     items: usize,
     concepts: usize,
@@ -29,8 +28,7 @@ pub extern "C" fn saltreeve_findings(
 }
 
 // Compiles a rule to a query, and writes its items to the lent room.
-#[unsafe(no_mangle)]
-pub extern "C" fn saltreeve_compile(
+pub fn saltreeve_compile(
     items: usize,
     concepts: usize,
     roles: usize,

@@ -6,8 +6,7 @@ ghost use Rattle.saltreeve.specs.Code.{counts};
 use store::Counts;
 
 // Moves each cell of the store `source` to its place in the store of the other size.
-#[unsafe(no_mangle)]
-pub extern "C" fn saltreeve_convert(
+pub fn saltreeve_convert(
     source: &[u64],
     items: usize,
     concepts: usize,
@@ -29,8 +28,7 @@ pub extern "C" fn saltreeve_convert(
 }
 
 // Adds statements one after the other, as many as have a place for their answers, and says how many they are.
-#[unsafe(no_mangle)]
-pub extern "C" fn saltreeve_add_all(
+pub fn saltreeve_add_all(
     words: &mut [u64],
     items: usize,
     concepts: usize,
