@@ -12,6 +12,6 @@ statement-statement-requires c = (c.requires.0, c.requires.1, omega arith)
 
 pub returns : goal.returns
 returns c = record {
-      holds = λ e. all_named c.requires.0 _ c.requires.1 (c.if-ends-field_count.false ∙ c.field_count.ensures) c.statement-statement.ensures (c.within-found.ensures.holds e);
-      fails = λ e z d. c.within-found.ensures.fails e (named-within c.requires.0 _ c.statement-statement.ensures d);
-    }
+  holds = λ e. all_named c.requires.0 _ c.requires.1 (c.if-ends-field_count.false ∙ c.field_count.ensures) c.statement-statement.ensures (c.within-found.ensures.holds e);
+  fails = λ e z d. c.within-found.ensures.fails e (named-within c.requires.0 _ c.statement-statement.ensures d);
+}

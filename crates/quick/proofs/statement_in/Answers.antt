@@ -18,6 +18,6 @@ stated-requires c = (c.requires.0, c.requires.2 c.if-line-gt-LINE.false)
 
 pub returns : goal.returns
 returns c = record {
-      holds = λ e. plainly _ _ _ _ c.requires.0.proper (c.stated.ensures.holds e) c.if-line-gt-LINE.false (ap not (sym c.requires.1) ∙ c.if-not-good.false-raw);
-      fails = λ e z p. c.stated.ensures.fails e z p.stated;
-    }
+  holds = λ e. plainly _ _ _ _ c.requires.0.proper (c.stated.ensures.holds e) c.if-line-gt-LINE.false (ap not (sym c.requires.1) ∙ c.if-not-good.false-raw);
+  fails = λ e z p. c.stated.ensures.fails e z p.stated;
+}

@@ -38,16 +38,16 @@ loop-q-smaller c = omega (arith, c.next-q-in-loop-q.ensures.later, c.next-q-in-l
 
 pub loop-q-preserved : goal.loop-q-preserved
 loop-q-preserved c = let j = c.judge-b.ensures in (
-      (λ x o m.
-          let w = c.loop-q.invariant.0 x o m in
-          turn-next w c.loop-q-test.true c.next-q-in-loop-q.ensures (turn-printed w c.loop-q-test.true (ap counts_of m ∙ counts_of-names_of _ _ c.requires.0.tidy) m j)),
-      omega (arith, c.next-q-in-loop-q.ensures.later, c.loop-q.invariant.1),
-      c.next-q-in-loop-q.ensures.inside,
-      omega (arith, j.total, few-findings {m = 512} (omega (arith, c.requires.0.store.fits.items, c.requires.2.wide)) j.findings, c.loop-q.invariant.3),
-      omega (arith, j.left, c.loop-q.invariant.4),
-      omega (arith, j.short, c.loop-q.invariant.5),
-      c.judge-b.auto.room ∙ c.loop-q.invariant.6,
-    )
+  (λ x o m.
+      let w = c.loop-q.invariant.0 x o m in
+      turn-next w c.loop-q-test.true c.next-q-in-loop-q.ensures (turn-printed w c.loop-q-test.true (ap counts_of m ∙ counts_of-names_of _ _ c.requires.0.tidy) m j)),
+  omega (arith, c.next-q-in-loop-q.ensures.later, c.loop-q.invariant.1),
+  c.next-q-in-loop-q.ensures.inside,
+  omega (arith, j.total, few-findings {m = 512} (omega (arith, c.requires.0.store.fits.items, c.requires.2.wide)) j.findings, c.loop-q.invariant.3),
+  omega (arith, j.left, c.loop-q.invariant.4),
+  omega (arith, j.short, c.loop-q.invariant.5),
+  c.judge-b.auto.room ∙ c.loop-q.invariant.6,
+)
 
 pub shape_of-room : goal.shape_of-room
 shape_of-room c = c.loop-q.invariant.6

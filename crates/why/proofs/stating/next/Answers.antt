@@ -58,10 +58,10 @@ loop-at-smaller c = omega (arith, c.look_from-s.ensures.end, end_ge 10 c.args.sh
 
 pub loop-at-preserved : goal.loop-at-preserved
 loop-at-preserved c = let is = ap (λ (e : ℕ). part_of c.args.sheet.now c.loop-at.at (e - c.loop-at.at)) c.look_from-s.ensures.end in (
-      (λ x done p. passing-on (c.loop-at.invariant.0 x done p) _ _ (omega arith) c.look_from-s.ensures.end is _ c.statement_in-q.ensures c.if-q.false),
-      omega (arith, c.look_from-s.ensures.end, end_ge 10 c.args.sheet.now c.loop-at.at, c.loop-at.invariant.1),
-      c.ends-in-loop-at-1.given,
-    )
+  (λ x done p. passing-on (c.loop-at.invariant.0 x done p) _ _ (omega arith) c.look_from-s.ensures.end is _ c.statement_in-q.ensures c.if-q.false),
+  omega (arith, c.look_from-s.ensures.end, end_ge 10 c.args.sheet.now c.loop-at.at, c.loop-at.invariant.1),
+  c.ends-in-loop-at-1.given,
+)
 
 pub overflow_add-sheet : goal.overflow_add-sheet
 overflow_add-sheet c = omega (arith, c.requires.1.passing.short)
