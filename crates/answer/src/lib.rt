@@ -1,4 +1,6 @@
 // What is printed for a question about a sheet: the lines behind a cell or a finding.
+#![tactic(auto)]
+
 mod ask;
 pub mod reply;
 

@@ -1,4 +1,6 @@
 // Many statements added to a lent store, one after the other, with one test of closedness; and what the C face gives and takes of statements as plain numbers.
+#![tactic(auto)]
+
 pub mod number;
 
 ghost use Rattle.std.specs.Prelude.{◌≡◌, ◌+◌, ◌*◌, ◌≤◌, length};

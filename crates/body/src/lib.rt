@@ -1,4 +1,6 @@
 // The body of a query: what a rule is translated to, how long it is, and its items written one after the other.
+#![tactic(auto)]
+
 pub mod length;
 pub mod write;
 

@@ -1,4 +1,6 @@
 // What breaks a rule in a closed store, row by row: the parts of `judge`, which counts and seeks the findings.
+#![tactic(auto)]
+
 pub mod breaking;
 
 use row::Row;

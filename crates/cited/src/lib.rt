@@ -1,4 +1,6 @@
 // The text of a reason: the lines of the statements in it, what is absent, and how many lines there are.
+#![tactic(auto)]
+
 pub mod print;
 
 // How far the lines of a reason are printed: the place in the room, and how many lines there are so far.

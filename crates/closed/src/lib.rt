@@ -1,4 +1,6 @@
 // The test of closedness: whether lent words are a closed store, asked part by part of whole rows.
+#![tactic(auto)]
+
 mod parts;
 
 ghost use Rattle.logic.specs.own.Decides.{Decides};

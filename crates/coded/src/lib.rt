@@ -1,4 +1,6 @@
 // The findings and the query of a rule that is given as plain words, for the C face.
+#![tactic(auto)]
+
 pub mod findings;
 pub mod queries;
 

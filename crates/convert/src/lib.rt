@@ -1,4 +1,6 @@
 // A store moved to the other size: each of its cells goes to its place there. Both are lent by the caller, and the source is only read.
+#![tactic(auto)]
+
 mod carry;
 pub mod number;
 

@@ -1,4 +1,6 @@
 // What is due in a line: its fields in their order, and what is still due after each of them.
+#![tactic(auto)]
+
 pub mod ahead;
 pub mod dues;
 

@@ -1,4 +1,6 @@
 // The fields of a line: the words of a sheet, the names that it declares, and what can be due in a field.
+#![tactic(auto)]
+
 mod code;
 pub mod names;
 pub mod tables;

@@ -1,4 +1,6 @@
 // Why an item is a finding of a rule `sub` with concept names on both sides.
+#![tactic(auto)]
+
 ghost use Rattle.std.specs.Prelude.{◌≡◌, false, ◌≤◌, length};
 ghost use Rattle.store.specs.Layout.{width_of};
 ghost use Rattle.store.specs.own.Laid.{Laid};

@@ -1,4 +1,6 @@
 // The form of a rule by number: refusals 3 and 4.
+#![tactic(auto)]
+
 ghost use Rattle.std.specs.Prelude.{◌≡◌, ℕ, ◌+◌, ◌<◌, ◌≤◌};
 ghost use Rattle.logic.specs.own.Decides.{Decides};
 ghost use Rattle.store.specs.Cell.{DeclaredItem, DeclaredRole};

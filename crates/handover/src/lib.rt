@@ -1,4 +1,6 @@
 // A text is handed over in the room that a host lends: all of it, or nothing and minus 8.
+#![tactic(auto)]
+
 ghost use Rattle.std.specs.Prelude.{◌≤◌, length, take};
 ghost use Rattle.handover.specs.Room.{InRoom};
 ghost use Rattle.handover.specs.own.Room.{Fitting, Just};

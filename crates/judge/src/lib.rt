@@ -1,4 +1,6 @@
 // What breaks a rule in a closed store: findings are counted, and sought one after another. `count` is the entry point.
+#![tactic(auto)]
+
 mod findings;
 pub mod seek;
 

@@ -1,4 +1,6 @@
 // What is wrong with a line: each field by itself, and the line as a whole.
+#![tactic(auto)]
+
 mod faults;
 pub mod lines;
 mod walk;

@@ -1,4 +1,6 @@
 // The findings of a rule, and of all rules of a sheet, written into the caller's list.
+#![tactic(auto)]
+
 ghost use Rattle.std.specs.Prelude.{◌<◌, ◌≤◌, length};
 ghost use Rattle.judge.specs.own.Search.{Met, Ready};
 ghost use Rattle.store.specs.Layout.{width_of};

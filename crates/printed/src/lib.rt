@@ -1,4 +1,6 @@
 // The printed lines of a sheet. What is public here is a part with a `requires`, not an entry point.
+#![tactic(auto)]
+
 ghost use Rattle.std.specs.Prelude.{◌≡◌, [], ◌*◌, ◌+◌, ◌<◌, ◌≤◌, get_or};
 ghost use Rattle.judge.specs.own.Search.{Ready};
 ghost use Rattle.text.specs.Text.{decimal, Wrote};

@@ -1,4 +1,6 @@
 // Queries: a rule compiled to query items.
+#![tactic(auto)]
+
 mod compile;
 
 // What compiles a rule.

@@ -1,4 +1,6 @@
 // Questions about a sheet, and the cell that one asks for.
+#![tactic(auto)]
+
 pub mod ask;
 
 use store::Statement;

@@ -1,4 +1,6 @@
 // A line told at one look to be a statement with nothing wrong.
+#![tactic(auto)]
+
 ghost use Rattle.std.specs.Prelude.{◌≡◌, false, ◌+◌, ◌≤◌, length, drop};
 ghost use Rattle.text.specs.Bytes.{every};
 ghost use Rattle.text.specs.Name.{line_byte};

@@ -1,4 +1,6 @@
 // Why a cell follows: of statements kept as numbers, some from which it follows, and from no part of them with one taken out. Knows nothing of sheets.
+#![tactic(auto)]
+
 mod choose;
 pub mod code;
 mod facts;

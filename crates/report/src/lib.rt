@@ -1,4 +1,6 @@
 // What is printed of a sheet: its rules, their findings, the text.
+#![tactic(auto)]
+
 pub mod page;
 
 // What is printed of a sheet.

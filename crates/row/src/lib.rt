@@ -1,4 +1,6 @@
 // Words as rows of bits. Each fact about a row is proved once, over its width.
+#![tactic(auto)]
+
 pub mod bit;
 pub mod copy;
 pub mod number;

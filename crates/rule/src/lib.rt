@@ -1,4 +1,6 @@
 // Rules by number: what they are, what they mean, and what breaks them. Nothing here reads a store.
+#![tactic(auto)]
+
 pub mod nodes;
 
 use store::{Concept, Item, Role};

@@ -1,4 +1,6 @@
 // What other languages call: the entry points under their C names, and nothing else.
+#![tactic(auto)]
+
 ghost use Rattle.std.specs.Prelude.{not, eqb};
 ghost use Rattle.store.specs.Cell.{cell_of};
 ghost use Rattle.store.specs.Cell.Cell.{Same, Under, RoleUnder, In, Link};

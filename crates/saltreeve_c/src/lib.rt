@@ -1,4 +1,6 @@
 // The entry points under their C names, as a static library: each calls the function of its name in crate saltreeve, and says the same of it.
+#![tactic(auto)]
+
 ghost use Rattle.std.specs.Prelude.{not, eqb};
 ghost use Rattle.store.specs.Cell.Cell.{Same, Under, RoleUnder, In, Link};
 ghost use Rattle.batch.specs.Codes.{AddCode};

@@ -1,4 +1,6 @@
 // What a rule line without a fault says.
+#![tactic(auto)]
+
 mod expressions;
 mod places;
 pub mod rules;

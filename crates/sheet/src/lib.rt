@@ -1,4 +1,6 @@
 // Whole sheets: what their lines say one after the other, reading them into a lent store, and their rules a second time.
+#![tactic(auto)]
+
 pub mod edition;
 mod keeping;
 pub mod pass;

@@ -1,4 +1,6 @@
 // What the C face gives as plain numbers: the answers to questions as signed numbers.
+#![tactic(auto)]
+
 ghost use Rattle.std.specs.Prelude.{◌≡◌, ◌<◌};
 ghost use Rattle.signed.specs.Codes.{SmallExplained, SmallFinding, explained_code, finding_code, refusal_code};
 

@@ -1,4 +1,6 @@
 // Rules as plain words, for the C face. include/saltreeve.h says how a rule is written.
+#![tactic(auto)]
+
 pub mod rules;
 
 // How a rule is written as words.

@@ -1,4 +1,6 @@
 // The store: its words, which cells they hold, and what follows from what. It knows how to look cells up, and changes nothing.
+#![tactic(auto)]
+
 pub mod look;
 pub mod role_word;
 pub mod size;

@@ -1,4 +1,6 @@
 // The findings of all rules of an accepted sheet, one after the other: the parts of `listing::read`, which writes them into a list.
+#![tactic(auto)]
+
 ghost use Rattle.std.specs.Prelude.{◌≡◌, min, ◌≤◌, length};
 ghost use Rattle.store.specs.Layout.{ClosedStore, width_of};
 ghost use Rattle.field.specs.own.Table.{Tidy, number_count, table_of};

@@ -1,4 +1,6 @@
 // Why a cell is true: statement lines of a sheet from which it follows, and from no part of them with a line taken out.
+#![tactic(auto)]
+
 pub mod gather;
 mod stating;
 

@@ -2,7 +2,6 @@
 use native.Mathlib.Omega.{arith}
 use mir.Syntax.{w64}
 use mir.ValLaws.{to_z-of_z}
-use Prim.Native.Nat.{◌-◌}
 use Rattle.batch.specs.laws.Turn.{filled_at, filled-done, filled_more, filled_none}
 use Rattle.batch.proofs.fill.Goals as goal
 

@@ -3,7 +3,6 @@ use native.Mathlib.Omega.{arith}
 use mathlib.Core.Path.{ap, sym, ◌∙◌}
 use mir.Syntax.{w64}
 use mir.ValLaws.{to_z-of_z}
-use Prim.Native.Nat.{◌-◌}
 use Rattle.store.specs.own.Laid.{layout_of}
 use Rattle.batch.specs.laws.Turn.{answered-done, answered-more, answered-none, turn_at}
 use Rattle.batch.proofs.turns.Goals as goal

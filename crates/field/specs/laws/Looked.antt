@@ -1,8 +1,8 @@
 -- A line that was looked at, with room for the ends of all its fields. Assumes nothing.
-use Rattle.std.specs.Prelude.{◌≡◌, refl, Bool, true, false, cond, List, [], ◌∷◌, ℕ, suc, ◌≤◌, ◌<◌, min, eqb, length, take}
-use Rattle.std.proofs.Common.{sym, ap, ◌∙◌, arith, get_or-take, length-take-le}
+use Rattle.std.specs.Prelude.{◌≡◌, Bool, true, false, cond, List, [], ◌∷◌, ℕ, suc, ◌≤◌, ◌<◌, min, eqb, length, take}
+use Rattle.std.proofs.Common.{ap, ◌∙◌, arith, get_or-take, length-take-le}
 use Rattle.std.proofs.Math.Seq.{length-sets}
-use Rattle.text.specs.Split.{fields, split}
+use Rattle.text.specs.Split.{fields}
 use Rattle.reader.specs.declared.scan.Scan.{Scan}
 use Rattle.reader.specs.own.Scan.{Scanned, ends_of, line_at}
 use Rattle.reader.specs.laws.Ends.{ends-count, scanned-ended}

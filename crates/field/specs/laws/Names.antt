@@ -5,7 +5,6 @@ use Rattle.std.proofs.Common.{sym, arith, length-drop, take_all}
 use borrow.Author.Tests.{eq-eqb, ne_eqb}
 use Rattle.std.proofs.Math.ListN.{get_or-eq_default}
 use Rattle.text.specs.own.Split.{part_of}
-use Rattle.text.specs.Bytes.{place}
 use Rattle.text.specs.Date.{digit, date_shaped}
 use Rattle.text.specs.Name.{is_name}
 use Rattle.store.specs.Layout.{concept_limit, role_limit}

@@ -1,5 +1,5 @@
 -- Laws of words and of what a line is. Assumes nothing.
-use Rattle.std.specs.Prelude.{◌≡◌, refl, Bool, true, false, cond, List, [], ◌∷◌, ℕ, suc, ◌-◌, ◌≤◌, ◌<◌, eqb, ltb, length, drop}
+use Rattle.std.specs.Prelude.{◌≡◌, refl, Bool, true, false, cond, List, [], ◌∷◌, ℕ, suc, ◌≤◌, ◌<◌, eqb, ltb, length, drop}
 use Rattle.std.proofs.Common.{sym, ◌∙◌, ap, true≢false, zero-le, arith, le-leb}
 use Rattle.std.proofs.Math.Dec.{leb-suc-suc}
 use Rattle.text.specs.Bytes.{bytes, every, place, same}

@@ -3,7 +3,6 @@ use native.Mathlib.Omega.{arith}
 use Rattle.sheet.specs.laws.Width.{numbers-large}
 use Rattle.why.specs.laws.Gather.{lent-large}
 use Rattle.finding.specs.laws.Explained.{finding-none}
-use Prim.Native.Nat.{◌-◌}
 use Rattle.finding.proofs.+explain_large.Goals as goal
 
 pub explain_large-requires : goal.explain_large-requires

@@ -1,7 +1,6 @@
 -- `finding::rule_at` meets its contract. Assumes nothing.
 use mathlib.Core.Path.{sym, ◌∙◌}
 use mathlib.Core.List.{[], ◌∷◌}
-use Prim.Native.Nat.{◌-◌}
 use native.Mathlib.Omega.{arith}
 use lib.ListN.{length-append}
 use Rattle.sheet.specs.laws.Count.{turn_end, turn-next, turn-paused, turn-rules, turn-start}

@@ -1,9 +1,7 @@
 -- `form::counts_fit` meets its contract. The loop's invariant: the counts of the nodes passed fit. Assumes nothing.
-use Prim.Native.Nat.{◌-◌}
 use native.Mathlib.Omega.{arith}
 use borrow.Author.Count.{below_none, below_more}
 use Rattle.logic.specs.laws.Decides.{decides-all, decides-not-all}
-use Rattle.rule.specs.Form.{node_at}
 use Rattle.form.proofs.counts_fit.Goals as goal
 
 pub loop-i-init : goal.loop-i-init

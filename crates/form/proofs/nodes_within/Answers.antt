@@ -1,9 +1,7 @@
 -- `form::nodes_within` meets its contract. The loop's invariant: the numbers of the nodes passed are below their counts. Assumes nothing.
-use Prim.Native.Nat.{◌-◌}
 use native.Mathlib.Omega.{arith}
 use borrow.Author.Count.{below_none, below_more}
 use Rattle.logic.specs.laws.Decides.{decides-all, decides-not-all}
-use Rattle.rule.specs.Form.{node_at}
 use Rattle.form.proofs.nodes_within.Goals as goal
 
 pub loop-i-init : goal.loop-i-init

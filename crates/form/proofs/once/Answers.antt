@@ -1,9 +1,7 @@
 -- `form::once` meets its contract. The loop's invariant: each node passed is used once in all. Assumes nothing.
-use Prim.Native.Nat.{◌-◌}
 use native.Mathlib.Omega.{arith}
 use borrow.Author.Count.{below_none, below_more}
 use Rattle.logic.specs.laws.Decides.{decides-all, decides-not-all}
-use Rattle.rule.specs.Form.{root_uses}
 use Rattle.form.proofs.once.Goals as goal
 
 pub loop-j-init : goal.loop-j-init

@@ -1,6 +1,5 @@
 -- `form::used` meets its contract. The loop's invariant: the uses of the nodes passed are counted. Assumes nothing.
 use mathlib.Core.Path.{◌≡◌, sym, ap, ◌∙◌}
-use Prim.Native.Nat.{◌-◌}
 use native.Mathlib.Omega.{arith}
 use Rattle.rule.specs.Form.{uses_below}
 use Rattle.form.specs.laws.Form.{uses_below-more, uses_below-none}

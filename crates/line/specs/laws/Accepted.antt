@@ -11,7 +11,7 @@ use Rattle.line.specs.declared.Marks.{Marks}
 use Rattle.field.specs.Due.{dues, fits, lineup_of, none}
 use Rattle.line.specs.Fault.{ended, fields_fault, form_fault, full, line_fault, line_limit, unknown}
 use Rattle.field.specs.Names.{Names, fault, field_faults, lower_fault, nodes_in}
-use Rattle.field.specs.Words.{at, Field, body_of, form_of, section_of}
+use Rattle.field.specs.Words.{Field, body_of, form_of, section_of}
 use Rattle.field.specs.laws.Right.{Right, fault-none, lower-zeros}
 
 -- the fields of an accepted line

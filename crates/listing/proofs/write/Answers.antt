@@ -1,6 +1,5 @@
 -- `listing::write` meets its contract. Assumes nothing.
 use Rattle.std.proofs.Common.{add-one, arith, ◌≡◌}
-use Rattle.judge.specs.own.Search.{Met}
 use Rattle.judge.specs.own.Search.Met.{more, start}
 use Rattle.listing.specs.laws.Written.{wrote-length, wrote-more, wrote-start}
 use Rattle.listing.proofs.write.Goals as goal

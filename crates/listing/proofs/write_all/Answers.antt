@@ -1,6 +1,5 @@
 -- `listing::write_all` meets its contract. Assumes nothing.
 use Rattle.std.proofs.Common.{add-one, arith, ◌≡◌}
-use Rattle.trail.specs.own.Trail.{Went}
 use Rattle.trail.specs.own.Trail.Went.{more, start}
 use Rattle.listing.specs.laws.Written.{wrote-length, wrote-more, wrote-start}
 use Rattle.listing.proofs.write_all.Goals as goal

@@ -1,6 +1,5 @@
 -- `packed::put_all` meets its contract: the first i nodes are in their places. Assumes nothing.
 use mathlib.Core.Path.{◌≡◌, ◌∙◌, ap, sym}
-use Prim.Native.Nat.{◌-◌}
 use lib.ListN.{length}
 use borrow.Author.Rules.{rules}
 use Rattle.rule.specs.Form.{node_limit}

@@ -1,6 +1,5 @@
 -- `printed::findings` meets its contract: i findings are written. Assumes nothing.
 use mathlib.Core.Path.{◌≡◌, refl, ◌∙◌}
-use Prim.Native.Nat.{◌-◌}
 use native.Mathlib.Omega.{arith}
 use Rattle.printed.specs.laws.Written.{reached-all, reached-more, reached-start}
 use Rattle.printed.proofs.findings.Goals as goal

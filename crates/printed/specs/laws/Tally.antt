@@ -5,11 +5,9 @@ use Rattle.std.proofs.Math.Logic.{by_cases}
 use Rattle.std.proofs.Math.Decide.{dec_lt}
 use Rattle.store.specs.declared.Counts.{Counts}
 use Rattle.store.specs.declared.Layout.{Layout}
-use Rattle.store.specs.own.Laid.{layout_of}
 use Rattle.rule.specs.declared.Finding.{Finding}
 use Rattle.judge.specs.declared.Prepared.{Prepared}
 use Rattle.rule.specs.declared.Rule.{Rule}
-use Rattle.rule.specs.Findings.{Findings}
 use Rattle.judge.specs.own.Search.{Starts}
 use Rattle.text.specs.Text.{Wrote}
 use Rattle.field.specs.Names.{Names}

@@ -5,7 +5,6 @@ use Rattle.store.specs.declared.Counts.{Counts}
 use Rattle.store.specs.declared.Layout.{Layout}
 use Rattle.store.specs.Cell.{Cell}
 use Rattle.store.specs.Layout.{Holds, size, width_of}
-use Rattle.store.specs.own.Laid.{layout_of}
 use Rattle.rule.specs.declared.Finding.{Finding}
 use Rattle.judge.specs.declared.Prepared.{Prepared}
 use Rattle.rule.specs.declared.Rule.{Rule}

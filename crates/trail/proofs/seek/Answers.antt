@@ -1,5 +1,4 @@
 -- `trail::seek` meets its contract: no rule from the first place to this one has a finding. Assumes nothing.
-use Prim.Native.Nat.{◌-◌}
 use borrow.Author.Tests.{not-true, not-false}
 use Rattle.store.specs.laws.Width.{laid_by}
 use Rattle.trail.specs.laws.Trail.{beyond-on, beyond-paused, sought-none, sought-some}

@@ -1,5 +1,5 @@
 -- Whatever is read, listed, printed or checked of an accepted sheet, it is its violations. Assumes nothing.
-use Rattle.std.specs.Prelude.{◌≡◌, List, ℕ, ℤ, length}
+use Rattle.std.specs.Prelude.{◌≡◌, List, ℕ, ℤ}
 use Rattle.std.proofs.Common.{sym, ap, ap₂, ◌∙◌, subst}
 use Rattle.store.specs.Cell.{Follows}
 use Rattle.store.specs.Layout.{size}

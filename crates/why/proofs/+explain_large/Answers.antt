@@ -3,7 +3,6 @@ use native.Mathlib.Omega.{arith}
 use Rattle.sheet.specs.laws.Width.{numbers-large}
 use Rattle.why.specs.laws.Explained.{explains-none}
 use Rattle.why.specs.laws.Gather.{lent-large}
-use Prim.Native.Nat.{◌-◌}
 use Rattle.why.proofs.+explain_large.Goals as goal
 
 pub explain_large-requires : goal.explain_large-requires

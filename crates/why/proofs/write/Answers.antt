@@ -1,6 +1,5 @@
 -- `why::write` meets its contract: the lines of those marked of the n statements passed are listed, and q comes next. Assumes nothing.
 use mathlib.Core.Path.{refl, ◌∙◌}
-use Prim.Native.Nat.{◌-◌}
 use native.Mathlib.Omega.{arith}
 use Rattle.sheet.specs.laws.Pass.{accepted-start}
 use Rattle.why.specs.own.Stating.{found_statement}

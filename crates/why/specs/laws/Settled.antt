@@ -15,7 +15,6 @@ use Rattle.sheet.specs.Said.Outcome.{accepted}
 use Rattle.sheet.specs.laws.Pass.{not-both, said_of}
 use Rattle.sheet.specs.laws.Unique.{reads-unique}
 use Rattle.why.specs.declared.Explained.{Explained}
-use Rattle.why.specs.declared.Explained.TheVariants.{Refused}
 use Rattle.why.specs.Promise.{Explains}
 use Rattle.why.specs.Promise.Explains.{refused, not-true, found}
 use Rattle.why.specs.Settled.{SameAnswer}

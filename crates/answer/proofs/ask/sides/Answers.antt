@@ -1,8 +1,6 @@
 -- `answer::ask::sides` meets its contract. Assumes nothing.
 use native.Mathlib.Omega.{arith}
 use mathlib.Core.Path.{refl}
-use mathlib.Core.Bool.{false}
-use Prim.Native.Nat.{◌-◌}
 use Rattle.sheet.specs.laws.Count.{turn_end, turn-next, turn-paused, turn-start}
 use Rattle.sheet.specs.laws.Pass.{accepted-start}
 use Rattle.answer.specs.laws.Asked.{none-all, none-start, none-turn, some_turn}

@@ -2,7 +2,6 @@
 use mathlib.Core.Path.{refl}
 use mathlib.Core.List.{◌∷◌, []}
 use native.Mathlib.Omega.{arith}
-use borrow.Fn.PlainCycle.{is}
 use Rattle.body.specs.laws.Writing.{at-node, at_zero, roomy-as, written_as, top-done, name-room, name_done, not-room, not-inner, not-close, not_done, and_first, and_second, and-done, own_room, own-done, one-room, one-done, least-none, least-few, least-turns, least-stride, least-pairs, least-done, turns-none, turns-room, turns-inner, turns-rest, turns-done}
 use Rattle.body.proofs.Cursor.+expr_turns.Goals as goal
 

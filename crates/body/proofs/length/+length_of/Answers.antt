@@ -1,7 +1,6 @@
 -- `length::length_of` meets its contract: each arm adds up its own kind. Assumes nothing.
 use mathlib.Core.Path.{refl}
 use native.Mathlib.Omega.{arith}
-use borrow.Fn.PlainCycle.{is}
 use Rattle.body.specs.laws.Writing.{at-node, at_zero}
 use Rattle.body.specs.laws.Capped.{cap-as, cap-not, cap-and, cap-least}
 use Rattle.body.proofs.length.+length_of.Goals as goal

@@ -1,6 +1,5 @@
 -- `breach::breaking::alone_row` meets its contract. A rule of two roots by whole rows; for the others the loop's invariant is the contract below `x`. Assumes nothing.
 use mathlib.Core.Path.{sym, ◌∙◌}
-use Prim.Native.Nat.{◌-◌}
 use native.Mathlib.Omega.{arith}
 use Rattle.row.specs.laws.Marks.{marks-done, marks-more, marks-none}
 use Rattle.store.specs.Layout.{Holds}

@@ -1,6 +1,5 @@
 -- `closed::parts::pairs_closed` meets its contract. Assumes nothing.
 use native.Mathlib.Omega.{arith}
-use Prim.Native.Nat.{◌-◌}
 use borrow.Author.Count.{below_more}
 use Rattle.logic.specs.laws.Decides.{decides-no, decides-yes}
 use Rattle.closed.proofs.parts.pairs_closed.Goals as goal

@@ -1,7 +1,6 @@
 -- `convert::carry::copy` meets its contract. The loop's invariant is the contract up to `h`. Assumes nothing.
 use native.Mathlib.Omega.{arith}
 use mathlib.Core.Path.{refl}
-use Prim.Native.Nat.{◌-◌}
 use Rattle.row.specs.laws.Mapped.{mapped-done, mapped-more, mapped-none}
 use Rattle.convert.specs.laws.Carry.{copy-here}
 use Rattle.convert.proofs.carry.copy.Goals as goal

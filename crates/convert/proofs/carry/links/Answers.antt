@@ -1,6 +1,6 @@
 -- `convert::carry::links` meets its contract. The loop's invariant is the contract up to role `r`, whose block begins at `a` in s and at `b` in t. Assumes nothing.
 use native.Mathlib.Omega.{arith}
-use Prim.Native.Nat.{◌-◌, ◌*◌}
+use Prim.Native.Nat.{◌*◌}
 use Rattle.row.specs.laws.Rows.{row_next}
 use Rattle.store.specs.Layout.{item_limit}
 use Rattle.store.specs.laws.Width.{block-small}

@@ -1,6 +1,5 @@
 -- `convert::carry::rows` meets its contract. The loop's invariant is the contract up to row `x`, which begins at `a` in s and at `b` in t. Assumes nothing.
 use native.Mathlib.Omega.{arith}
-use Prim.Native.Nat.{◌-◌}
 use Rattle.row.specs.laws.Rows.{row_next, row_within}
 use Rattle.convert.specs.laws.Carry.{rows_more, stride-done, stride-none}
 use Rattle.convert.proofs.carry.rows.Goals as goal

@@ -1,6 +1,5 @@
 -- `expression::count::several` meets its contract. The loop's invariant is the contract below `x`. Assumes nothing.
 use mathlib.Core.Path.{◌∙◌}
-use Prim.Native.Nat.{◌-◌}
 use native.Mathlib.Omega.{arith}
 use borrow.Author.Rules.{rules}
 use Rattle.logic.specs.laws.Decides.{decides-le}

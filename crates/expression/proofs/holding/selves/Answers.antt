@@ -1,6 +1,5 @@
 -- `expression::holding::selves` meets its contract. The loop's invariant is the contract below `x`. Assumes nothing.
 use mathlib.Core.Path.{◌∙◌}
-use Prim.Native.Nat.{◌-◌}
 use native.Mathlib.Omega.{arith}
 use Rattle.row.specs.laws.Marks.{marks-done, marks-more, marks-none}
 use Rattle.expression.proofs.holding.selves.Goals as goal

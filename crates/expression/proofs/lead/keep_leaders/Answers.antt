@@ -1,6 +1,5 @@
 -- `expression::lead::keep_leaders` meets its contract. The loop's invariant: of the items below `b`, the next item of the row, those are left that lead, and no other is the same as one of them. Assumes nothing.
 use mathlib.Core.Path.{◌∙◌}
-use Prim.Native.Nat.{◌-◌}
 use native.Mathlib.Omega.{arith}
 use Rattle.expression.specs.laws.Lead.{kept-done, kept_more, kept-none, kept-skip}
 use Rattle.expression.proofs.lead.keep_leaders.Goals as goal

@@ -1,6 +1,5 @@
 -- `expression::tally::tally` meets its contract. The loop's invariant is the contract for the items of the words below `h`. Assumes nothing.
 use mathlib.Core.Path.{◌∙◌}
-use Prim.Native.Nat.{◌-◌}
 use native.Mathlib.Omega.{arith}
 use borrow.Author.Rules.{rules}
 use lib.ListN.{length-set}

@@ -1,5 +1,4 @@
 -- `expression::tally::tally_word` meets its contract. The loop's invariant: the items below `b`, the next item of the row, are counted. Assumes nothing.
-use Prim.Native.Nat.{◌-◌}
 use native.Mathlib.Omega.{arith}
 use Rattle.expression.specs.laws.Tally.{tallied-done, tallied-more, tallied-none}
 use Rattle.expression.proofs.tally.tally_word.Goals as goal

@@ -2,7 +2,6 @@
 use native.Mathlib.Omega.{arith}
 use borrow.Author.Rules.{rules}
 use mathlib.Core.Path.{sym, ◌∙◌}
-use Prim.Native.Nat.{◌-◌}
 use Rattle.text.specs.laws.Bytes.{table_here, table_on, table-out}
 use Rattle.field.specs.own.Table.{name_at}
 use Rattle.field.proofs.names.place_in.Goals as goal

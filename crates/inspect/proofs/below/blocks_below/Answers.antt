@@ -1,6 +1,6 @@
 -- `inspect::below::blocks_below` meets its contract. Assumes nothing.
 use native.Mathlib.Omega.{arith}
-use Prim.Native.Nat.{◌-◌, ◌*◌}
+use Prim.Native.Nat.{◌*◌}
 use borrow.Author.Count.{below_more}
 use Rattle.logic.specs.laws.Decides.{decides-no, decides-yes}
 use Rattle.inspect.specs.laws.Below.{blocks_step}

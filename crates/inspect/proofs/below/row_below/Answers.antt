@@ -1,6 +1,5 @@
 -- `inspect::below::row_below` meets its contract. Assumes nothing.
 use native.Mathlib.Omega.{arith}
-use Prim.Native.Nat.{◌-◌}
 use borrow.Author.Count.{below_more}
 use Rattle.logic.specs.laws.Decides.{decides-no, decides-yes}
 use Rattle.inspect.specs.laws.Below.{row_step}

@@ -1,6 +1,5 @@
 -- `inspect::test::blocks_within` meets its contract. Assumes nothing.
 use native.Mathlib.Omega.{arith}
-use Prim.Native.Nat.{◌-◌}
 use borrow.Author.Count.{below_more}
 use Rattle.logic.specs.laws.Decides.{decides-no, decides-yes}
 use Rattle.row.specs.laws.Rows.{row_within}

@@ -1,5 +1,4 @@
 -- `inspect::test::includes` meets its contract. Assumes nothing.
-use Prim.Native.Nat.{◌-◌}
 use native.Mathlib.Omega.{arith}
 use Rattle.logic.specs.laws.Decides.{decides-no, decides-yes}
 use Rattle.inspect.specs.laws.Test.{includes-more, includes-step}

@@ -1,7 +1,6 @@
 -- `inspect::test::reflexive` meets its contract. Assumes nothing.
 use native.Mathlib.Omega.{arith}
 use mathlib.Core.Path.{sym, ◌∙◌}
-use Prim.Native.Nat.{◌-◌}
 use borrow.Author.Count.{below_more}
 use Rattle.logic.specs.laws.Decides.{decides-no, decides-yes}
 use Rattle.row.specs.laws.Bit.{at_place, hasb-has, hasb-not}

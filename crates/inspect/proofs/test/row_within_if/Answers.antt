@@ -1,6 +1,5 @@
 -- `inspect::test::row_within_if` meets its contract. Assumes nothing.
 use Rattle.logic.specs.laws.Decides.{decides-off, decides-when}
-use Rattle.row.specs.laws.Rows.{row_within}
 use Rattle.inspect.proofs.test.row_within_if.Goals as goal
 
 pub returns-then-on : goal.returns-then-on

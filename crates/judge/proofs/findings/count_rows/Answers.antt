@@ -1,5 +1,4 @@
 -- `judge::findings::count_rows` meets its contract. The loop's invariant: the findings in the rows passed are counted. Assumes nothing.
-use Prim.Native.Nat.{◌-◌}
 use native.Mathlib.Omega.{arith}
 use Rattle.store.specs.Layout.{Holds}
 use Rattle.breach.specs.laws.Plan.{pair-places}

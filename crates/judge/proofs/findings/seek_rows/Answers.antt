@@ -1,5 +1,5 @@
 -- `judge::findings::seek_rows` meets its contract. The loop's invariant: no row passed has a finding. Assumes nothing.
-use Prim.Native.Nat.{◌*◌, ◌≤◌, ◌-◌}
+use Prim.Native.Nat.{◌*◌, ◌≤◌}
 use native.Mathlib.Omega.{arith}
 use Rattle.row.specs.own.Pick.{room}
 use Rattle.store.specs.Layout.{Holds}

@@ -1,5 +1,4 @@
 -- `judge::seek::start` meets its contract: the plan has as many findings as were counted, and the cursor is at the first. Assumes nothing.
-use Rattle.row.specs.own.Pick.{room}
 use Rattle.judge.specs.laws.Search.{starts}
 use Rattle.judge.proofs.seek.start.Goals as goal
 

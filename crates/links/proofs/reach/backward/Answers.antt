@@ -1,7 +1,5 @@
 -- `links::reach::backward` meets its contract. The loop's invariant is the contract below `y`. Assumes nothing.
 use mathlib.Core.Path.{◌∙◌}
-use mathlib.Core.Bool.{true}
-use Prim.Native.Nat.{◌-◌}
 use native.Mathlib.Omega.{arith}
 use Rattle.logic.specs.laws.Decides.{decides-yes}
 use Rattle.row.specs.laws.Marks.{marks-done, marks-more, marks-none}

@@ -1,6 +1,4 @@
 -- `links::reach::forward` meets its contract. The loop's invariant: the links of the items below `z` are there. Assumes nothing.
-use mathlib.Core.Bool.{false}
-use Prim.Native.Nat.{◌-◌}
 use native.Mathlib.Omega.{arith}
 use Rattle.links.specs.laws.Reach.{gathered_none, gathered-more, gathered-skip, gathered-done, none_between}
 use Rattle.links.proofs.reach.forward.Goals as goal

@@ -1,5 +1,4 @@
 -- `question::ask::about_finding` meets its contract. Assumes nothing.
-use Rattle.text.specs.Bytes.{same}
 use Rattle.question.specs.Question.{about_finding}
 use Rattle.question.specs.laws.Asked.{first_field}
 use Rattle.question.proofs.ask.about_finding.Goals as goal

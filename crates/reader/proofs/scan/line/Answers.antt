@@ -1,5 +1,5 @@
 -- `reader::scan::line` meets its contract. Assumes nothing.
-use Rattle.std.proofs.Common.{◌-◌, arith}
+use Rattle.std.proofs.Common.{arith}
 use Rattle.reader.specs.laws.Scan.{begins, scan-byte, scan-out, scan-skip, scan-stop, scan-tab}
 use Rattle.reader.proofs.scan.line.Goals as goal
 

@@ -1,5 +1,5 @@
 -- `reader::scan::skip` meets its contract. Assumes nothing.
-use Rattle.std.proofs.Common.{◌-◌, arith}
+use Rattle.std.proofs.Common.{arith}
 use lib.Count.{trailing_le}
 use Rattle.reader.specs.laws.Scan.{skip-none}
 use Rattle.reader.specs.laws.Mask.{skip-word}

@@ -1,5 +1,5 @@
 -- `reader::scan::skip_one` meets its contract. Assumes nothing.
-use Rattle.std.proofs.Common.{◌-◌, arith}
+use Rattle.std.proofs.Common.{arith}
 use Rattle.reader.specs.laws.Scan.{skip-more}
 use Rattle.reader.proofs.scan.skip_one.Goals as goal
 

@@ -1,5 +1,4 @@
 -- `reason::choose::find` meets its contract: from no statement passed steps lead to the fact. Assumes nothing.
-use Prim.Native.Nat.{◌-◌}
 use native.Mathlib.Omega.{arith}
 use Rattle.reason.specs.laws.Aim.{met, small-aim, small_at, unmet-more, unmet-never}
 use Rattle.reason.proofs.choose.find.Goals as goal

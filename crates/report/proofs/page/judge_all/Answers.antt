@@ -1,7 +1,6 @@
 -- `report::page::judge_all` meets its contract: n rules are judged, and q comes next. Assumes nothing.
 use mathlib.Core.Path.{refl, ap, ◌∙◌}
 use mathlib.Core.List.{[]}
-use Prim.Native.Nat.{◌-◌}
 use Rattle.field.specs.Names.{counts_of}
 use Rattle.sheet.specs.laws.Count.{turn_end, turn-next, turn-paused, turn-since}
 use Rattle.rule.specs.laws.Few.{few-findings}

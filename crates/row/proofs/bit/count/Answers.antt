@@ -1,6 +1,5 @@
 -- `row::bit::count` meets its contract. The loop's invariant: `n` counts the first `i` words, and is at most 64 for each. Assumes nothing.
 use mathlib.Core.Path.{refl}
-use Prim.Native.Nat.{◌-◌}
 use native.Mathlib.Omega.{arith}
 use lib.Count.{ones-le}
 use Rattle.row.specs.laws.Total.{total-all, total-more}

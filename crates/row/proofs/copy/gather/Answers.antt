@@ -1,6 +1,5 @@
 -- `row::copy::gather` meets its contract. Assumes nothing.
 use native.Mathlib.Omega.{arith}
-use Prim.Native.Nat.{◌-◌}
 use Rattle.row.specs.laws.Gather.{gathered_none, gathered-more, gathered-done}
 use Rattle.row.specs.laws.Rows.{row_within}
 use Rattle.row.proofs.copy.gather.Goals as goal

@@ -1,6 +1,5 @@
 -- `row::copy::join` meets its contract. The loop's invariant is the contract up to `h`. Assumes nothing.
 use mathlib.Core.Path.{refl}
-use Prim.Native.Nat.{◌-◌}
 use native.Mathlib.Omega.{arith}
 use Rattle.row.specs.laws.Rows.{joined-done, joined-more, joined-none}
 use Rattle.row.specs.own.Pick.{room}

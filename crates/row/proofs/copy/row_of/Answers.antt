@@ -1,6 +1,5 @@
 -- `row::copy::row_of` meets its contract. The loop's invariant is the contract up to `h`. Assumes nothing.
 use mathlib.Core.Path.{refl}
-use Prim.Native.Nat.{◌-◌}
 use native.Mathlib.Omega.{arith}
 use Rattle.row.specs.laws.Rows.{copied-done, copied_more, copied_none}
 use Rattle.row.specs.own.Pick.{room}

@@ -1,5 +1,4 @@
 -- `row::copy::take_off` meets its contract. The loop's invariant is the contract up to `h`. Assumes nothing.
-use Prim.Native.Nat.{◌-◌}
 use native.Mathlib.Omega.{arith}
 use Rattle.row.specs.laws.Mapped.{mapped-done, mapped-more, mapped-none}
 use Rattle.row.specs.laws.Together.{take-off}

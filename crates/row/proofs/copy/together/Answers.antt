@@ -1,6 +1,5 @@
 -- `row::copy::together` meets its contract. The loop's invariant is the contract up to `h`. Assumes nothing.
 use mathlib.Core.Path.{refl}
-use Prim.Native.Nat.{◌-◌}
 use native.Mathlib.Omega.{arith}
 use Rattle.row.specs.laws.Together.{together-none, together-more, together-done}
 use Rattle.row.proofs.copy.together.Goals as goal

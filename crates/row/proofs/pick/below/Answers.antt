@@ -1,6 +1,5 @@
 -- `row::pick::below` meets its contract. The loop's invariant: the first `h` words are right, and `left` numbers remain. Assumes nothing.
 use mathlib.Core.Path.{refl}
-use Prim.Native.Nat.{◌-◌}
 use native.Mathlib.Omega.{arith}
 use Rattle.row.specs.laws.Pick.{lows-none, lows-more, lows-done}
 use Rattle.row.proofs.pick.below.Goals as goal

@@ -1,5 +1,5 @@
 -- `row::pick::common` meets its contract. The loop's invariant: `n` counts what the first `h` words have in common. Assumes nothing.
-use Prim.Native.Nat.{◌+◌, ◌-◌}
+use Prim.Native.Nat.{◌+◌}
 use native.Mathlib.Omega.{arith}
 use native.Mathlib.Nat.{lt_of_le_of_lt}
 use lib.Bits.{bit_and, and_le_l}

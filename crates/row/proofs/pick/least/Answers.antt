@@ -1,5 +1,4 @@
 -- `row::pick::least` meets its contract. The loop's invariant: the words below `h` have no bit. Assumes nothing.
-use Prim.Native.Nat.{◌-◌}
 use native.Mathlib.Omega.{arith}
 use lib.Count.{trailing_le}
 use lib.ListN.{get_or}

@@ -1,6 +1,5 @@
 -- `row::pick::meet` meets its contract. The loop's invariant is the contract up to `h`, word by word. Assumes nothing.
 use mathlib.Core.Path.{refl}
-use Prim.Native.Nat.{◌-◌}
 use native.Mathlib.Omega.{arith}
 use Rattle.row.specs.laws.Pick.{zipped-none, zipped-more, zipped-met}
 use Rattle.row.proofs.pick.meet.Goals as goal

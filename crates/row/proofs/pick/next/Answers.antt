@@ -1,5 +1,4 @@
 -- `row::pick::next` meets its contract. The loop's invariant: from `x` up to `at` no number is in the row. Assumes nothing.
-use Prim.Native.Nat.{◌-◌}
 use native.Mathlib.Omega.{arith}
 use Rattle.row.specs.laws.Pick.{none-past, next_here, next-none}
 use Rattle.row.proofs.pick.next.Goals as goal

@@ -1,5 +1,4 @@
 -- `row::pick::shares` meets its contract. The loop's invariant: the first `h` words share no number. Assumes nothing.
-use Prim.Native.Nat.{◌-◌}
 use native.Mathlib.Omega.{arith}
 use native.Mathlib.Nat.{lt_of_le_of_lt}
 use lib.Bits.{and_le_l}

@@ -1,6 +1,6 @@
 -- `saying::places::unpack` meets its contract: the first i nodes are in their places. Assumes nothing.
 use mathlib.Core.Path.{◌≡◌, ◌∙◌, ap}
-use Prim.Native.Nat.{ℕ, ◌-◌}
+use Prim.Native.Nat.{ℕ}
 use lib.ListN.{length, length-set}
 use Rattle.saying.specs.Read.{laid}
 use Rattle.packed.specs.own.Packed.{unpacked}

@@ -1,7 +1,6 @@
 -- `sheet::reads::count_all` meets its contract: the findings of n rules are counted, and q comes next. Assumes nothing.
 use mathlib.Core.Path.{ap, ◌∙◌}
 use mathlib.Core.List.{[]}
-use Prim.Native.Nat.{◌-◌}
 use Rattle.field.specs.Names.{counts_of}
 use Rattle.sheet.specs.laws.Count.{counted-few, counted-more, counted_none, turn_end, turn-next, turn-paused, turn-since}
 use Rattle.sheet.specs.laws.Pass.{accepted-start, passing-since}

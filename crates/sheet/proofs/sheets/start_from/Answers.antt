@@ -1,6 +1,5 @@
 -- `sheet::sheets::start_from` meets its contract. Assumes nothing.
 use borrow.Author.Tests.{eq-eqb, ne_eqb}
-use borrow.Author.Rules.{rules}
 use Rattle.sheet.proofs.sheets.start_from.Goals as goal
 
 pub returns-then-rules-eq0 : goal.returns-then-rules-eq0

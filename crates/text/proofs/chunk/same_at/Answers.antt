@@ -1,6 +1,5 @@
 -- `text::chunk::same_at` meets its contract. Assumes nothing.
 use mathlib.Core.Path.{sym}
-use Prim.Native.Nat.{◌-◌}
 use Rattle.text.specs.laws.Chunk.{agree-all, agree-more, agree-none, byte-off}
 use native.Mathlib.Omega.{arith}
 use Rattle.text.proofs.chunk.same_at.Goals as goal

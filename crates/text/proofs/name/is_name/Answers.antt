@@ -3,7 +3,6 @@ use borrow.Author.Tests.{le-leb, lt-leb}
 use mathlib.Core.Path.{sym, ◌∙◌, refl}
 use Rattle.text.specs.Name.{is_name, name_byte}
 use Rattle.text.specs.laws.Bytes.{every-go, every-stop, every-end}
-use Prim.Native.Nat.{◌-◌}
 use native.Mathlib.Omega.{arith}
 use borrow.Author.Rules.{rules}
 use Rattle.text.proofs.name.is_name.Goals as goal

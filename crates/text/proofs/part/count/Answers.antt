@@ -1,5 +1,4 @@
 -- `text::part::count` meets its contract. Assumes nothing.
-use Prim.Native.Nat.{◌-◌}
 use native.Mathlib.Omega.{arith}
 use borrow.Author.Rules.{rules}
 use Rattle.text.specs.laws.Split.{count-here, count-on, count-out}

@@ -1,5 +1,4 @@
 -- `text::part::end_of` meets its contract. Assumes nothing.
-use Prim.Native.Nat.{◌-◌}
 use mathlib.Core.Path.{sym, ◌∙◌}
 use native.Mathlib.Omega.{arith}
 use Rattle.text.specs.laws.Split.{end-out, end-here, end_on}

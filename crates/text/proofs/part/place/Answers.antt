@@ -1,7 +1,6 @@
 -- `text::part::place` meets its contract. Assumes nothing.
 use native.Mathlib.Omega.{arith}
 use mathlib.Core.Path.{sym, ◌∙◌}
-use Prim.Native.Nat.{◌-◌}
 use Rattle.text.specs.laws.Split.{parts_all, end_ge, end-le, word-here, word_on, word_out}
 use Rattle.text.proofs.part.place.Goals as goal
 

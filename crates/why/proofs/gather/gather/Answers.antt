@@ -1,6 +1,6 @@
 -- `why::gather::gather` meets its contract: the first n numbers are those of the n statements passed, and q comes next. Assumes nothing.
 use mathlib.Core.Path.{◌∙◌}
-use Prim.Native.Nat.{◌-◌, ◌<◌}
+use Prim.Native.Nat.{◌<◌}
 use native.Mathlib.Omega.{arith}
 use lib.ListN.{length, length-set}
 use Rattle.store.specs.Cell.{cell_of}
