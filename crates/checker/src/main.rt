@@ -1,38 +1,52 @@
 // The program: reads a sheet on standard input and prints what is found.
+#![tactic(auto)]
+
 ghost use Rattle.std.specs.Prelude.{◌≤◌, length};
 
-use libc::{STDERR_FILENO, STDIN_FILENO, STDOUT_FILENO};
 use report::Report;
+use std::io::Read;
+
+// Reads until the room is full, the input ends or a read fails; gives how many bytes were put at the start of the room.
+fn read_full(input: &mut impl Read, room: &mut [u8]) -> usize
+    ensures { result ≤ length room.new }
+{
+    let mut done = 0;
+    while done < room.len() {
+        match input.read(&mut room[done..]) {
+            Ok(0) | Err(_) => break,
+            Ok(n) => done += n,
+        }
+    }
+    done
+}
 
 // Whether the input has really ended, and not only failed.
-fn ended() -> bool {
+fn ended(input: &mut impl Read) -> bool {
     let mut one = [0u8; 1];
-    libc::read(STDIN_FILENO, &mut one) == 0
+    matches!(input.read(&mut one), Ok(0))
 }
 
 // Prints the text for the first n bytes of what was read.
-fn print(sheet: &[u8], n: usize)
+fn print(rt: &(impl Print + Eprint), sheet: &[u8], n: usize)
     requires { n ≤ length sheet.now }
 {
     let mut room = [0u8; Report::BYTES];
     let k = report::page::page(&sheet[..n], &mut room);
-    if !io::write_all(STDOUT_FILENO, &room[..k]) {
-        io::write_all(STDERR_FILENO, b"checker: the text could not be written\n");
+    if rt.write_all(&room[..k]).is_err() {
+        let _ = rt.eprint("checker: the text could not be written\n");
     }
 }
 
 // Reads one byte more than a sheet may have, so that a longer one is known, and prints.
-fn main() {
+fn main(rt: HostRuntime) {
     let mut sheet = [0u8; 32769];
-    let n = io::read_full(STDIN_FILENO, &mut sheet);
+    let mut input = rt.stdin();
+    let n = read_full(&mut input, &mut sheet);
     if n < 32769 {
-        if !ended() {
-            io::write_all(
-                STDERR_FILENO,
-                b"checker: the sheet could not be read to its end\n",
-            );
+        if !ended(&mut input) {
+            let _ = rt.eprint("checker: the sheet could not be read to its end\n");
             return;
         }
     }
-    print(&sheet, n);
+    print(&rt, &sheet, n);
 }

@@ -1,13 +1,16 @@
 // The program `lister`, for the tests: prints what the entry points give that write into a list of records. It reads on standard input a byte that says which store is lent, a few rules by number,
 // and a sheet. The store is the smaller by 0, the smaller without its last word by 1, the larger by 2, and the larger without its last word by any other. A rule is a byte a number: how many items
 // more are declared than the sheet does, then its words.
-ghost use Rattle.std.specs.Prelude.{◌≡◌, length};
+#![tactic(auto)]
+
+ghost use Rattle.std.specs.Prelude.{◌≡◌, ◌≤◌, length};
 
 use judge::{RuleRefusal, Total};
-use libc::{STDIN_FILENO, STDOUT_FILENO};
 use rule::{Finding, Rule, Second};
 use sheet::Reading;
 use spelled::Spelled;
+use std::io;
+use std::io::Read;
 use store::{Counts, Item, Store};
 
 // How many records a list has.
@@ -73,87 +76,87 @@ fn find_list(
 }
 
 // Prints a word.
-fn word(bytes: &[u8]) {
-    io::write_all(STDOUT_FILENO, bytes);
+fn word(rt: &impl Print, bytes: &[u8]) -> io::Result<()> {
+    rt.write_all(bytes)
 }
 
 // Prints a number after a tab.
-fn number(n: u64) {
-    word(b"\t");
-    io::print_decimal(STDOUT_FILENO, n);
+fn number(rt: &impl Print, n: u64) -> io::Result<()> {
+    print!(rt; "\t{n}")
 }
 
 // Prints the end of a line.
-fn end() {
-    word(b"\n");
+fn end(rt: &impl Print) -> io::Result<()> {
+    word(rt, b"\n")
 }
 
 // Prints a record.
-fn record(f: Finding) {
-    word(b"record");
-    number(f.rule as u64);
+fn record(rt: &impl Print, f: Finding) -> io::Result<()> {
+    word(rt, b"record")?;
+    number(rt, f.rule as u64)?;
     let item = f.item;
     let second = f.second;
-    number(item.0 as u64);
+    number(rt, item.0 as u64)?;
     match second {
         Second::None => {}
-        Second::Item(b) => number(b.0 as u64),
+        Second::Item(b) => number(rt, b.0 as u64)?,
     }
-    end();
+    end(rt)
 }
 
 // Prints a list of records.
-fn records(list: [Finding; ROOM]) {
+fn records(rt: &impl Print, list: [Finding; ROOM]) -> io::Result<()> {
     let mut i = 0;
     while i < ROOM {
-        record(list[i]);
+        record(rt, list[i])?;
         i += 1;
     }
+    Ok(())
 }
 
 // Prints a refusal.
-fn refused(line: usize, k: u64) {
-    word(b"refused");
-    number(line as u64);
-    number(k);
-    end();
+fn refused(rt: &impl Print, line: usize, k: u64) -> io::Result<()> {
+    word(rt, b"refused")?;
+    number(rt, line as u64)?;
+    number(rt, k)?;
+    end(rt)
 }
 
 // Prints the answer of reading a sheet.
-fn print_reading(answer: Reading) {
+fn print_reading(rt: &impl Print, answer: Reading) -> io::Result<()> {
     match answer {
         Reading::Accepted(counts, rules, total) => {
-            word(b"accepted");
-            number(counts.items as u64);
-            number(counts.concepts as u64);
-            number(counts.roles as u64);
-            number(rules as u64);
-            number(total);
-            end();
+            word(rt, b"accepted")?;
+            number(rt, counts.items as u64)?;
+            number(rt, counts.concepts as u64)?;
+            number(rt, counts.roles as u64)?;
+            number(rt, rules as u64)?;
+            number(rt, total)?;
+            end(rt)
         }
-        Reading::Refused(line, k) => refused(line, k as u64),
+        Reading::Refused(line, k) => refused(rt, line, k as u64),
     }
 }
 
 // Prints the number of a rule's refusal.
-fn refusal(k: RuleRefusal) {
+fn refusal(rt: &impl Print, k: RuleRefusal) -> io::Result<()> {
     match k {
-        RuleRefusal::Size => refused(0, 1),
-        RuleRefusal::NotClosed => refused(0, 2),
-        RuleRefusal::Malformed => refused(0, 3),
-        RuleRefusal::Number => refused(0, 4),
+        RuleRefusal::Size => refused(rt, 0, 1),
+        RuleRefusal::NotClosed => refused(rt, 0, 2),
+        RuleRefusal::Malformed => refused(rt, 0, 3),
+        RuleRefusal::Number => refused(rt, 0, 4),
     }
 }
 
 // Prints what is asked of a rule, and the answer.
-fn print_total(asked: &[u8], answer: Total) {
+fn print_total(rt: &impl Print, asked: &[u8], answer: Total) -> io::Result<()> {
     match answer {
         Total::Count(n) => {
-            word(asked);
-            number(n);
-            end();
+            word(rt, asked)?;
+            number(rt, n)?;
+            end(rt)
         }
-        Total::Refused(k) => refusal(k),
+        Total::Refused(k) => refusal(rt, k),
     }
 }
 
@@ -192,97 +195,116 @@ fn with_more(declared: Counts, n: u8) -> Counts {
 }
 
 // Prints what is counted and listed of the rule with the number k, in the store that a sheet with these counts left.
-fn judge_rule(given: &[u8], k: usize, words: &[u64], declared: Counts) {
+fn judge_rule(
+    rt: &impl Print,
+    given: &[u8],
+    k: usize,
+    words: &[u64],
+    declared: Counts,
+) -> io::Result<()> {
     let coded = words_of(given);
     let rule = spelled::rules::rule_of(&coded);
     let counts = with_more(declared, byte_at(given, 0));
-    print_total(b"count", judge::count(words, counts, rule));
+    print_total(rt, b"count", judge::count(words, counts, rule))?;
     let found = find_list(words, counts, k, rule, marked());
     let answer = found.answer;
     let list = found.list;
-    print_total(b"list", answer);
-    records(list);
+    print_total(rt, b"list", answer)?;
+    records(rt, list)
 }
 
 // Prints what is counted and listed of each of the rules.
-fn judge_rules(input: &[u8], words: &[u64], counts: Counts) {
+fn judge_rules(rt: &impl Print, input: &[u8], words: &[u64], counts: Counts) -> io::Result<()> {
     let mut k = 0;
     while k < RULES {
         judge_rule(
+            rt,
             text::part::part(input, 1 + k * RULE_BYTES, RULE_BYTES),
             k,
             words,
             counts,
-        );
+        )?;
         k += 1;
     }
+    Ok(())
 }
 
 // Prints what reading a sheet gave.
-fn print_listed(listed: Listed) {
+fn print_listed(rt: &impl Print, listed: Listed) -> io::Result<()> {
     let answer = listed.answer;
     let list = listed.list;
-    print_reading(answer);
-    records(list);
+    print_reading(rt, answer)?;
+    records(rt, list)
 }
 
 // Prints what reading the sheet into the lent store gives, and of an accepted one what its store gives for the rules.
-fn print_in(input: &[u8], words: &mut [u64]) {
+fn print_in(rt: &impl Print, input: &[u8], words: &mut [u64]) -> io::Result<()> {
     let sheet = text::part::part(input, HEAD, input.len());
     let listed = read_list(sheet, words, marked());
     let answer = listed.answer;
-    print_listed(listed);
+    print_listed(rt, listed)?;
     match answer {
-        Reading::Accepted(counts, _, _) => judge_rules(input, words, counts),
-        Reading::Refused(_, _) => {}
+        Reading::Accepted(counts, _, _) => judge_rules(rt, input, words, counts),
+        Reading::Refused(_, _) => Ok(()),
     }
 }
 
 // Prints it with the smaller store.
-fn print_small(input: &[u8]) {
+fn print_small(rt: &impl Print, input: &[u8]) -> io::Result<()> {
     let mut words = [GARBAGE; Store::WORDS];
-    print_in(input, &mut words);
+    print_in(rt, input, &mut words)
 }
 
 // Prints it with the smaller store without its last word.
-fn print_small_short(input: &[u8]) {
+fn print_small_short(rt: &impl Print, input: &[u8]) -> io::Result<()> {
     let mut words = [GARBAGE; Store::WORDS - 1];
-    print_in(input, &mut words);
+    print_in(rt, input, &mut words)
 }
 
 // Prints it with the larger store.
-fn print_large(input: &[u8]) {
+fn print_large(rt: &impl Print, input: &[u8]) -> io::Result<()> {
     let mut words = [GARBAGE; Store::LARGE_WORDS];
-    print_in(input, &mut words);
+    print_in(rt, input, &mut words)
 }
 
 // Prints it with the larger store without its last word.
-fn print_large_short(input: &[u8]) {
+fn print_large_short(rt: &impl Print, input: &[u8]) -> io::Result<()> {
     let mut words = [GARBAGE; Store::LARGE_WORDS - 1];
-    print_in(input, &mut words);
+    print_in(rt, input, &mut words)
 }
 
 // Prints what is asked for.
-fn print_all(input: &[u8]) {
+fn print_all(rt: &impl Print, input: &[u8]) -> io::Result<()> {
     let store = byte_at(input, 0);
     if store == 0 {
-        print_small(input);
-        return;
+        return print_small(rt, input);
     }
     if store == 1 {
-        print_small_short(input);
-        return;
+        return print_small_short(rt, input);
     }
     if store == 2 {
-        print_large(input);
-        return;
+        return print_large(rt, input);
     }
-    print_large_short(input);
+    print_large_short(rt, input)
+}
+
+// Reads until the room is full, the input ends or a read fails; gives how many bytes were put at the start of the room.
+fn read_full(input: &mut impl Read, room: &mut [u8]) -> usize
+    ensures { result ≤ length room.new }
+{
+    let mut done = 0;
+    while done < room.len() {
+        match input.read(&mut room[done..]) {
+            Ok(0) | Err(_) => break,
+            Ok(n) => done += n,
+        }
+    }
+    done
 }
 
 // Reads the input, and prints.
-fn main() {
+fn main(rt: HostRuntime) -> io::Result<()> {
     let mut input = [0u8; INPUT];
-    let n = io::read_full(STDIN_FILENO, &mut input);
-    print_all(text::part::part(&input, 0, n));
+    let n = read_full(&mut rt.stdin(), &mut input);
+    print_all(&rt, text::part::part(&input, 0, n))
 }

@@ -1,17 +1,25 @@
 // The program behind ./saltreeve: `tool check FILE` prints the findings of a sheet, `tool why FILE` prints them with their reasons, `tool why FILE QUESTION` the answer to a question.
-use libc::{STDERR_FILENO, STDOUT_FILENO};
+#![tactic(auto)]
+
+ghost use Rattle.std.specs.Prelude.{◌≤◌, length};
+
 use report::Report;
+use std::env::FillError;
+use std::fs::File;
+use std::io;
+use std::io::{Read, Write};
+use std::rt::{Env, Files};
 use store::Store;
 
 // Says on standard error what went wrong.
-fn complain(text: &[u8]) {
-    io::write_all(STDERR_FILENO, text);
+fn complain(rt: &impl Eprint, text: &str) {
+    let _ = rt.eprint(text);
 }
 
 // Writes a text to standard output.
-fn say(text: &[u8]) {
-    if !io::write_all(STDOUT_FILENO, text) {
-        complain(b"tool: the text could not be written\n");
+fn say(rt: &(impl Print + Eprint), text: &[u8]) {
+    if rt.write_all(text).is_err() {
+        complain(rt, "tool: the text could not be written\n");
     }
 }
 
@@ -24,9 +32,9 @@ fn begins(text: &[u8], b: u8) -> bool {
 }
 
 // Writes the first n bytes of the room, unless they are the line of a refusal and that is not wanted.
-fn say_unless(room: &[u8], n: usize, refusals: bool) {
+fn say_unless(rt: &(impl Print + Eprint), room: &[u8], n: usize, refusals: bool) {
     if room.len() < n {
-        complain(b"tool: the reason is too long to be printed\n");
+        complain(rt, "tool: the reason is too long to be printed\n");
         return;
     }
     let text = text::part::part(room, 0, n);
@@ -35,7 +43,7 @@ fn say_unless(room: &[u8], n: usize, refusals: bool) {
             return;
         }
     }
-    say(text);
+    say(rt, text);
 }
 
 // Writes the answer to a question about a sheet into the room, with the store that its edition needs; gives its length.
@@ -47,26 +55,26 @@ fn write_answer(sheet: &[u8], question: &[u8], room: &mut [u8]) -> usize {
 }
 
 // Prints the answer to a question about a sheet; the line of a refusal only if it is wanted.
-fn print_answer(sheet: &[u8], question: &[u8], refusals: bool) {
+fn print_answer(rt: &(impl Print + Eprint), sheet: &[u8], question: &[u8], refusals: bool) {
     let mut room = [0u8; 65536];
     let n = write_answer(sheet, question, &mut room);
-    say_unless(&room, n, refusals);
+    say_unless(rt, &room, n, refusals);
 }
 
 // Prints a line of a sheet's text, and below it, if it is that of a finding, its reason.
-fn print_line(sheet: &[u8], line: &[u8]) {
-    say(line);
+fn print_line(rt: &(impl Print + Eprint), sheet: &[u8], line: &[u8]) {
+    say(rt, line);
     if begins(line, b'f') {
-        print_answer(sheet, line, false);
+        print_answer(rt, sheet, line, false);
     }
 }
 
 // Prints the lines of a sheet's text, and below those of findings their reasons.
-fn print_lines(sheet: &[u8], lines: &[u8]) {
+fn print_lines(rt: &(impl Print + Eprint), sheet: &[u8], lines: &[u8]) {
     let mut at = 0;
     while at < lines.len() {
         let end = text::part::end_of(lines, at, 10);
-        print_line(sheet, text::part::part(lines, at, end + 1 - at));
+        print_line(rt, sheet, text::part::part(lines, at, end + 1 - at));
         at = end + 1;
     }
 }
@@ -86,89 +94,111 @@ fn write_text(sheet: &[u8], room: &mut [u8]) -> usize {
 }
 
 // Prints the findings of a sheet and their total; each with its reason below it where it has one, if `reasons`.
-fn print_all(sheet: &[u8], reasons: bool) {
+fn print_all(rt: &(impl Print + Eprint), sheet: &[u8], reasons: bool) {
     let mut room = [0u8; Report::LARGE_BYTES];
     let n = write_text(sheet, &mut room);
     let text = text::part::part(&room, 0, n);
     if reasons {
-        print_lines(sheet, text);
+        print_lines(rt, sheet, text);
         return;
     }
-    say(text);
+    say(rt, text);
 }
 
 // Answers the question that the program was started with, or all questions if there is none. One that is cut at 1,024 bytes is still answered rightly: no statement and no finding has so many.
-fn answer_all(sheet: &[u8]) {
-    if os::arg_count() < 4 {
-        print_all(sheet, true);
-        return;
-    }
+fn answer_all(rt: &(impl Env + Print + Eprint), sheet: &[u8]) {
     let mut question = [0u8; 1024];
-    let n = os::arg(3, &mut question);
-    if os::errno() != 0 {
-        print_answer(sheet, &question, true);
-        return;
+    match rt.arg(3, &mut question) {
+        Ok(n) => print_answer(rt, sheet, &question[..n], true),
+        Err(FillError::TooLong) => print_answer(rt, sheet, &question, true),
+        Err(FillError::NotPresent) => print_all(rt, sheet, true),
     }
-    print_answer(sheet, &question[..n], true);
+}
+
+// Reads until the room is full, the input ends or a read fails; gives how many bytes were put at the start of the room.
+fn read_full(input: &mut impl Read, room: &mut [u8]) -> usize
+    ensures { result ≤ length room.new }
+{
+    let mut done = 0;
+    while done < room.len() {
+        match input.read(&mut room[done..]) {
+            Ok(0) | Err(_) => break,
+            Ok(n) => done += n,
+        }
+    }
+    done
 }
 
 // Whether the input has really ended, and not only failed.
-fn ended(fd: i32) -> bool {
+fn ended(input: &mut impl Read) -> bool {
     let mut one = [0u8; 1];
-    libc::read(fd, &mut one) == 0
+    matches!(input.read(&mut one), Ok(0))
 }
 
 // Reads one byte more than a sheet may have, so that a longer one is known, and checks it, or answers.
-fn read_sheet(fd: i32, check: bool) {
+fn read_sheet(rt: &(impl Env + Print + Eprint), input: &mut impl Read, check: bool) {
     let mut sheet = [0u8; 32769];
-    let n = io::read_full(fd, &mut sheet);
+    let n = read_full(input, &mut sheet);
     if n < 32769 {
-        if !ended(fd) {
-            complain(b"tool: the sheet could not be read to its end\n");
+        if !ended(input) {
+            complain(rt, "tool: the sheet could not be read to its end\n");
             return;
         }
     }
     if check {
-        print_all(&sheet[..n], false);
+        print_all(rt, &sheet[..n], false);
         return;
     }
-    answer_all(&sheet[..n]);
+    answer_all(rt, &sheet[..n]);
 }
 
 // Whether the program was started with a verb.
-fn asked(known: &[u8]) -> bool {
+fn asked(rt: &impl Env, known: &[u8]) -> bool {
     let mut verb = [0u8; 8];
-    let n = os::arg(1, &mut verb);
-    text::part::same(&verb[..n], known)
+    match rt.arg(1, &mut verb) {
+        Ok(n) => text::part::same(&verb[..n], known),
+        Err(_) => false,
+    }
+}
+
+// Says on standard error why a file could not be opened, in std's words without the number behind them.
+fn fail(rt: &impl Eprint, name: &str, error: io::Error) {
+    let mut room = [0u8; 128];
+    let mut rest = &mut room[..];
+    let _ = write!(rest, "{error}");
+    let n = 128usize.saturating_sub(rest.len());
+    let text = std::str::from_utf8(text::part::part(&room, 0, n)).unwrap_or("");
+    let words = text.split(" (os error ").next().unwrap_or("");
+    let _ = eprintln!(rt; "{name}: {words}");
 }
 
 // Does what the verb says with the sheet in a file.
-fn serve(path: &[u8]) {
-    let check = asked(b"check");
+fn serve(rt: &(impl Env + Files + Print + Eprint), path: &[u8]) {
+    let check = asked(rt, b"check");
     if !check {
-        if !asked(b"why") {
-            complain(b"tool: the verb is not known: there are check and why\n");
+        if !asked(rt, b"why") {
+            complain(rt, "tool: the verb is not known: there are check and why\n");
             return;
         }
     }
-    let fd = os::open_read(path);
-    if fd < 0 {
-        os::fail(path);
+    let Ok(name) = std::str::from_utf8(path) else {
+        let _ = eprintln!(rt; "{}: the name is not UTF-8", path.escape_ascii());
         return;
+    };
+    match File::open(rt, name) {
+        Ok(mut file) => read_sheet(rt, &mut file, check),
+        Err(error) => fail(rt, name, error),
     }
-    read_sheet(fd, check);
-    libc::close(fd);
 }
 
 // Takes the name of the file that the program was started with.
-fn main() {
-    let mut path = io::buffer();
-    let n = os::arg(2, &mut path);
-    if os::errno() != 0 {
-        complain(
-            b"tool: give a verb and a file whose name is not too long, as in: tool why FILE\n",
-        );
-        return;
+fn main(rt: HostRuntime) {
+    let mut path = [0u8; 4096];
+    match rt.arg(2, &mut path) {
+        Ok(n) => serve(&rt, &path[..n]),
+        Err(_) => complain(
+            &rt,
+            "tool: give a verb and a file whose name is not too long, as in: tool why FILE\n",
+        ),
     }
-    serve(&path[..n]);
 }
