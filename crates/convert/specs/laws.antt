@@ -3,6 +3,3 @@ pub mod Width
 pub mod Carry
 pub mod Moved
 pub mod Stable
-pub mod Refusals
-pub mod Conversion
-pub mod Codes

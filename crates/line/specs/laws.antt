@@ -2,5 +2,4 @@
 pub mod Walk
 pub mod Fault
 pub mod Header
-pub mod Accepted
 pub mod Some

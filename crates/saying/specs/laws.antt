@@ -6,5 +6,3 @@ pub mod Parse
 pub mod Rules
 pub mod Within
 pub mod Formed
-pub mod Judged
-pub mod Meant

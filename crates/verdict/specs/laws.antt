@@ -4,4 +4,3 @@ pub mod Meant
 pub mod Told
 pub mod Turn
 pub mod Violations
-pub mod Verdict

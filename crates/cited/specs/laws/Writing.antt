@@ -19,7 +19,7 @@ use Rattle.line.specs.Fault.{line_fault, line_limit, sheet_limit}
 use Rattle.sheet.specs.Said.{Outcome, Said, SheetStatement, line_said, marks_of, nothing, outcome, outcome_from, saying}
 use Rattle.sheet.specs.Said.Outcome.{accepted}
 use Rattle.field.specs.Words.{Field, body_of, form_of, line_form}
-use Rattle.line.specs.laws.Accepted.{right-short}
+use Rattle.line.proofs.laws.Accepted.{right-short}
 use Rattle.sheet.specs.laws.Pass.{accepted-start, accepted-step, said_of}
 use Rattle.why.specs.Listed.{lines_of}
 use Rattle.why.specs.laws.Listed.{lines_more}

@@ -7,7 +7,7 @@ use Rattle.store.specs.laws.Cells.{cells-number}
 use Rattle.store.specs.laws.Width.{laid_by, size_small, width-wide}
 use Rattle.convert.specs.declared.Refusal.TheVariants.{Size, NotClosed, TooMany}
 use Rattle.convert.specs.Promise.Converts.{refused as convert-refused, moved as convert-moved}
-use Rattle.convert.specs.laws.Refusals.{fits-other, none-applies, refused-1, refused-2, refused-26}
+use Rattle.convert.proofs.laws.Refusals.{fits-other, none-applies, refused-1, refused-2, refused-26}
 use Rattle.convert.specs.laws.Width.{other_width-long}
 use Rattle.convert.proofs.convert.Goals as goal
 

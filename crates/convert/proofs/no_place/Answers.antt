@@ -1,6 +1,6 @@
 -- `convert::no_place` meets its contract. Assumes nothing.
 use Rattle.logic.specs.laws.Decides.{decides-iff, decides-lt}
-use Rattle.convert.specs.laws.Refusals.{over-place, place-over}
+use Rattle.convert.proofs.laws.Refusals.{over-place, place-over}
 use Rattle.convert.proofs.no_place.Goals as goal
 
 pub returns : goal.returns

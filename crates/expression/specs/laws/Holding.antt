@@ -18,7 +18,7 @@ use Rattle.rule.specs.Meaning.{HoldsOf}
 use Rattle.expression.specs.own.Row.{NodeHolds, first_child, has_first, has_second, second_child}
 use Rattle.row.specs.laws.Marks.{marks-iff}
 use Rattle.rule.specs.laws.Tree.{expr_at-step}
-use Rattle.rule.specs.laws.Articles.{articles-iff}
+use Rattle.rule.proofs.laws.Articles.{articles-iff}
 
 -- the items that are the same as a, from the row of "same" at a
 pub alike-marks : {W : ℕ} {n : Counts} {s r : List ℕ} (a : ℕ) → ClosedStore W n s → Marks n.items r (λ x. Holds W n s (Same a x)) → Marks n.items r (λ x. Holds W n s (Same x a))

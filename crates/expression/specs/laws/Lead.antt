@@ -18,7 +18,7 @@ use Rattle.store.specs.Layout.{ClosedStore, Holds}
 use Rattle.store.specs.own.Look.{SameDropped}
 use Rattle.rule.specs.Meaning.{Articles, Different}
 use Rattle.rule.specs.Meaning.Different.{none, more}
-use Rattle.rule.specs.laws.Articles.{cover-le, fewer-articles}
+use Rattle.rule.proofs.laws.Articles.{cover-le, fewer-articles}
 use Rattle.expression.specs.own.Lead.{Kept, Leads}
 
 -- ---- as many as articles

@@ -19,8 +19,8 @@ use Rattle.store.specs.laws.Cells.{holds?}
 use Rattle.rule.specs.declared.RoleUse.{RoleUse}
 use Rattle.rule.specs.Meaning.{LinkedWay, Linked, Articles}
 use Rattle.rule.specs.Meaning.Different.{none, more}
-use Rattle.rule.specs.laws.Articles.{Covered, articles-iff, cover-le}
-use Rattle.rule.specs.laws.Told.{linked?}
+use Rattle.rule.proofs.laws.Articles.{Covered, articles-iff, cover-le}
+use Rattle.rule.proofs.laws.Told.{linked?}
 use Rattle.links.specs.own.Reach.{Reached}
 use Rattle.expression.specs.own.Lead.{Leads}
 use Rattle.expression.specs.own.Row.{Found, turned}

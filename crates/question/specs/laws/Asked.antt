@@ -17,7 +17,7 @@ use Rattle.line.specs.Fault.{line_fault, line_limit}
 use Rattle.line.specs.laws.Fault.{line-bytes}
 use Rattle.field.specs.Names.{Names}
 use Rattle.field.specs.Words.{at, Field, body_of, form_of}
-use Rattle.line.specs.laws.Accepted.{right-short}
+use Rattle.line.proofs.laws.Accepted.{right-short}
 use Rattle.question.specs.declared.CellAsked.{CellAsked}
 use Rattle.question.specs.own.Asked.{Asking, FormAsked}
 use Rattle.question.specs.Question.{among_statements, bare}

@@ -27,7 +27,7 @@ use Rattle.quick.specs.declared.StatementLine.{StatementLine}
 use Rattle.quick.specs.own.Quick.{Finds, Named, Plainly, Stated}
 use Rattle.field.specs.laws.Names.{lower-none}
 use Rattle.field.specs.laws.Right.{concept-name-good, listed-good}
-use Rattle.line.specs.laws.Accepted.{Accepted, line-accepted}
+use Rattle.line.proofs.laws.Accepted.{Accepted, line-accepted}
 use Rattle.line.specs.laws.Fault.{form-fields, known-body, line-bytes, line-form, line-long}
 use Rattle.stated.specs.laws.Stated.{statement-within}
 use Rattle.field.specs.laws.Table.{counts_of-names_of}

@@ -26,9 +26,9 @@ use Rattle.field.specs.Words.{at, Field, body_of, form_of}
 use Rattle.saying.specs.Read.{rule_of}
 use Rattle.sheet.specs.Said.{Said, SheetRule, SheetStatement, line_said, marks_of, nothing, outcome, outcome_from, saying}
 use Rattle.sheet.specs.Said.Outcome.{accepted}
-use Rattle.line.specs.laws.Accepted.{Accepted, line-accepted}
+use Rattle.line.proofs.laws.Accepted.{Accepted, line-accepted}
 use Rattle.field.specs.laws.Right.{concept-new, right-first}
-use Rattle.saying.specs.laws.Judged.{Good, rule-good}
+use Rattle.saying.proofs.laws.Judged.{Good, rule-good}
 use Rattle.sheet.specs.laws.Pass.{accepted-start, accepted-step, said_of}
 use Rattle.sheet.specs.laws.Refused.{refused-small}
 use Rattle.why.specs.declared.Explained.{Explained}

@@ -9,10 +9,10 @@ use Rattle.field.specs.declared.RuleWord.{RuleWord}
 use Rattle.field.specs.Words.{body_of, form_of}
 use Rattle.field.specs.Due.{none}
 use Rattle.line.specs.Fault.{begun, header_fault, line_fault, room_by, sheet_limit}
-use Rattle.line.specs.laws.Accepted.{line-accepted}
+use Rattle.line.proofs.laws.Accepted.{line-accepted}
 use Rattle.saying.specs.Read.{rule_of}
 use Rattle.saying.specs.Meant.{Meant, meaning_of, meant_by}
-use Rattle.saying.specs.laws.Meant.{rule-meant}
+use Rattle.saying.proofs.laws.Meant.{rule-meant}
 use Rattle.sheet.specs.Meant.{line_means, lines_mean, meanings}
 use Rattle.sheet.specs.Said.{Outcome, Said, line_said, marks_of, nothing, outcome, outcome_from, outcome_of, saying}
 use Rattle.sheet.specs.Said.Outcome.{accepted, refused}

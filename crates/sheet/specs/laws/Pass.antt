@@ -22,7 +22,7 @@ use Rattle.sheet.specs.Said.Outcome.{accepted, refused}
 use Rattle.field.specs.own.Table.{Table, names_of}
 use Rattle.field.specs.Words.{Field, body_of, form_of}
 use Rattle.field.specs.laws.Words.{body-words}
-use Rattle.line.specs.laws.Accepted.{line-accepted, right-short}
+use Rattle.line.proofs.laws.Accepted.{line-accepted, right-short}
 use Rattle.line.specs.laws.Some.{rule-some}
 use Rattle.sheet.specs.laws.Settled.{rule-begun, sheet-settled}
 

@@ -14,7 +14,7 @@ use Rattle.sheet.specs.own.Stands.{Adding, Came, Comes, Stands, Takes, TakesOthe
 use Rattle.quick.specs.laws.Quick.{named-within, right-plainly}
 use Rattle.sheet.specs.laws.Stands.{stands-statement}
 use Rattle.sheet.specs.laws.Taken.{statement-taken}
-use Rattle.line.specs.laws.Accepted.{right-short}
+use Rattle.line.proofs.laws.Accepted.{right-short}
 
 module _ {W : ℕ} {sheet : List ℕ} {t : Table} {m : Marks} {s : List ℕ} {start : ℕ} {line : List ℕ} {good : Bool} {ends : List ℕ} (c : Comes W sheet t m s start line good ends) where
   -- a line without a fault is to be taken

@@ -10,7 +10,7 @@ use Rattle.line.specs.Fault.{begun, ended, line_fault}
 use Rattle.sheet.specs.Said.{Outcome, Said, line_said, marks_of, outcome_from, saying}
 use Rattle.sheet.specs.Said.Outcome.{accepted, refused}
 use Rattle.field.specs.Words.{Field, body_of, form_of, section_of}
-use Rattle.line.specs.laws.Accepted.{line-accepted}
+use Rattle.line.proofs.laws.Accepted.{line-accepted}
 
 -- a list with a last entry is not none
 pub none_last : {A : Type 0} (xs : List A) (y : A) → none (xs ++ y ∷ []) ≡ false

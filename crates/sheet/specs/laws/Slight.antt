@@ -14,7 +14,7 @@ use Rattle.field.specs.Words.{at, Field, body_of, form_of}
 use Rattle.field.specs.laws.Right.{item-new, right-first}
 use Rattle.field.specs.Due.{none}
 use Rattle.line.specs.Fault.{line_fault, rule_limit, sheet_limit}
-use Rattle.line.specs.laws.Accepted.{Accepted, line-accepted}
+use Rattle.line.proofs.laws.Accepted.{Accepted, line-accepted}
 use Rattle.sheet.specs.Said.{Said, SheetRule, line_of, line_said, marks_of, nothing, outcome, outcome_from, saying}
 use Rattle.sheet.specs.Said.Outcome.{accepted}
 use Rattle.sheet.specs.laws.Pass.{accepted-start, accepted-step, said_of}

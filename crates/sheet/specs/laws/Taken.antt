@@ -23,7 +23,7 @@ use Rattle.sheet.specs.Said.{Said, line_said, saying}
 use Rattle.sheet.specs.own.Stands.{Begins, Declaration, Stands, Takes}
 use Rattle.field.specs.own.Line.{Looked, words_of}
 use Rattle.field.specs.own.Table.{Noted, Table, Tidy, concept_name, concepts_from, entry_of, hint_at, items_from, name_at, names_of, place_count, roles_from, room_of, table_of}
-use Rattle.line.specs.laws.Accepted.{Accepted, line-accepted}
+use Rattle.line.proofs.laws.Accepted.{Accepted, line-accepted}
 use Rattle.field.specs.laws.Declared.{declared-concept, declared-item, declared-role, more_concepts, more_items, more_roles}
 use Rattle.field.specs.laws.Right.{New, concept-name-good, concept-new, item-new, right-first, role-new}
 use Rattle.field.specs.laws.Entry.{entry-name}

@@ -15,10 +15,10 @@ use Rattle.field.specs.Names.{counts_of}
 use Rattle.field.specs.Words.{Field, body_of, form_of}
 use Rattle.field.specs.Due.{none}
 use Rattle.line.specs.Fault.{begun, line_fault}
-use Rattle.line.specs.laws.Accepted.{Accepted, line-accepted}
+use Rattle.line.proofs.laws.Accepted.{Accepted, line-accepted}
 use Rattle.saying.specs.Read.{rule_of}
 use Rattle.stated.specs.Stated.{statement_of}
-use Rattle.saying.specs.laws.Judged.{Good, rule-good}
+use Rattle.saying.proofs.laws.Judged.{Good, rule-good}
 use Rattle.stated.specs.laws.Stated.{statement-within}
 use Rattle.sheet.specs.Said.{Said, SheetRule, SheetStatement, StatedIn, line_said, marks_of, nothing, outcome, outcome_from, saying, statements_of}
 use Rattle.sheet.specs.Said.Outcome.{accepted}

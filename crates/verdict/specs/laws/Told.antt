@@ -22,7 +22,7 @@ use Rattle.rule.specs.declared.Second.TheVariants as second
 use Rattle.rule.specs.declared.Slot.{Slot}
 use Rattle.rule.specs.Breaks.{Breaks, BreaksAlone, BreaksPair, Path}
 use Rattle.rule.specs.Expr.{expr_of}
-use Rattle.rule.specs.laws.Told.{holds_of?, linked?}
+use Rattle.rule.proofs.laws.Told.{holds_of?, linked?}
 use Rattle.judge.specs.laws.Sorted.{in_order}
 use Rattle.sheet.specs.Promise.{FindingsFrom}
 use Rattle.sheet.specs.Promise.FindingsFrom.{none, more}

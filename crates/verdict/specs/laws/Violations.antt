@@ -10,7 +10,7 @@ use Rattle.rule.specs.declared.Second.{Second}
 use Rattle.rule.specs.Breaks.{Breaks}
 use Rattle.rule.specs.Findings.{finding_of}
 use Rattle.field.specs.Names.{counts_of}
-use Rattle.saying.specs.laws.Judged.{Good}
+use Rattle.saying.proofs.laws.Judged.{Good}
 use Rattle.sheet.specs.Promise.{FindingsFrom}
 use Rattle.sheet.specs.Said.{RuleAt, Said, SheetRule, StatedIn, outcome}
 use Rattle.sheet.specs.Said.Outcome.{accepted}
@@ -18,8 +18,8 @@ use Rattle.reason.specs.laws.Part.{one_right}
 use Rattle.finding.specs.laws.Finding.{rule-unique}
 use Rattle.paper.specs.Satisfied.{ICSatisfies}
 use Rattle.paper.specs.laws.Canonical.{Settled, canonical}
-use Rattle.paper.specs.laws.TheoremB.{canonical-minimal}
-use Rattle.paper.specs.laws.TheoremC.{theorem-c, theorem-c-finding}
+use Rattle.paper.proofs.laws.TheoremB.{canonical-minimal}
+use Rattle.paper.proofs.laws.TheoremC.{theorem-c, theorem-c-finding}
 use Rattle.verdict.specs.Violations.{Violates, Violations}
 use Rattle.verdict.specs.laws.Declared.{rules-good}
 use Rattle.verdict.specs.laws.Turn.{Placed, from-has, from-placed, from-turn, turn-unique}

@@ -12,7 +12,7 @@ use Rattle.sheet.specs.Said.{Outcome, Said, line_said, marks_of, nothing, outcom
 use Rattle.stated.specs.Stated.{statement_of}
 use Rattle.sheet.specs.Said.Outcome.{accepted}
 use Rattle.field.specs.Words.{body_of, form_of}
-use Rattle.line.specs.laws.Accepted.{line-accepted}
+use Rattle.line.proofs.laws.Accepted.{line-accepted}
 use Rattle.sheet.specs.laws.Pass.{accepted-start, accepted-step, said_of}
 use Rattle.why.specs.declared.StatementLine.{StatementLine}
 use Rattle.why.specs.own.Gather.{statement_limit}

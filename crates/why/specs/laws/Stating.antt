@@ -19,7 +19,7 @@ use Rattle.sheet.specs.Said.Outcome.{accepted}
 use Rattle.field.specs.own.Table.{Table, names_of}
 use Rattle.field.specs.Words.{Field, body_of, form_of}
 use Rattle.field.specs.laws.Right.{Right}
-use Rattle.line.specs.laws.Accepted.{line-accepted, right-short}
+use Rattle.line.proofs.laws.Accepted.{line-accepted, right-short}
 use Rattle.stated.specs.laws.Stated.{statement-within}
 use Rattle.line.specs.laws.Some.{statement-some}
 use Rattle.sheet.specs.laws.Pass.{accepted-start, accepted-step, said_of}

@@ -3,7 +3,7 @@ use native.Mathlib.Omega.{arith}
 use mathlib.Core.Path.{◌∙◌}
 use mir.Syntax.{w64}
 use mir.ValLaws.{to_z-of_z}
-use Rattle.convert.specs.laws.Codes.{converts-code}
+use Rattle.convert.proofs.laws.Codes.{converts-code}
 use Rattle.saltreeve.proofs.stores.saltreeve_convert.Goals as goal
 
 pub code-requires : goal.code-requires

@@ -19,8 +19,8 @@ use Rattle.rule.specs.Expr.{Expr, bot, either, some, every, at_most}
 use Rattle.rule.specs.Expr.Expr.{neg}
 use Rattle.rule.specs.Meaning.{Linked, Different, Articles, HoldsOf}
 use Rattle.rule.specs.Meaning.Different.{none, more}
-use Rattle.rule.specs.laws.Articles.{fewer-articles}
-use Rattle.rule.specs.laws.Told.{store-holds_of?}
+use Rattle.rule.proofs.laws.Articles.{fewer-articles}
+use Rattle.rule.proofs.laws.Told.{store-holds_of?}
 
 -- a declared item that is linked from x and has the expression
 abbrev pub LinkedWith : (Cell → Type 0) → Counts → RoleUse → Expr → ℕ → ℕ → Type 0

@@ -7,7 +7,7 @@ use Rattle.store.specs.Cell.Cell.{Same}
 use Rattle.paper.specs.Interpretation.{Interpretation, Entails, Less, Minimal, Model, Satisfies}
 use Rattle.paper.specs.laws.Sound.{follows-satisfied}
 use Rattle.paper.specs.laws.Canonical.{Settled, canonical, canonical-exact}
-use Rattle.paper.specs.laws.TheoremB.{apart, apart-less, apart-model, apart-same, canonical-minimal, minimal-if, minimal-value}
+use Rattle.paper.proofs.laws.TheoremB.{apart, apart-less, apart-model, apart-same, canonical-minimal, minimal-if, minimal-value}
 
 module _ {n : Counts} {G C : Cell → Type 0} (k : Settled n G C) where
   -- Lemma 1: below each model that has not minimal equality there is one that has

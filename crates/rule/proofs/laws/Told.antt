@@ -10,7 +10,7 @@ use Rattle.rule.specs.declared.RoleUse.{RoleUse}
 use Rattle.rule.specs.Expr.{Expr}
 use Rattle.rule.specs.Expr.Expr.{name, top, neg, both, many, own, one}
 use Rattle.rule.specs.Meaning.{LinkedWay, Linked, HoldsOf}
-use Rattle.rule.specs.laws.Articles.{articles?}
+use Rattle.rule.proofs.laws.Articles.{articles?}
 
 linked-way? : {C : Cell → Type 0} → ((c : Cell) → Dec (C c)) → (v : Bool) (r x y : ℕ) → Dec (LinkedWay C v r x y)
 linked-way? C? false r x y = C? (Link r x y)

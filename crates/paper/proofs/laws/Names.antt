@@ -11,7 +11,7 @@ use Rattle.rule.specs.declared.Rule.{Rule}
 use Rattle.rule.specs.declared.Slot.{Slot}
 use Rattle.rule.specs.Form.{HeadFits, HeadWithin, NodeWithin, RuleWithin, UsesLater, WellFormed, node_at, node_limit}
 use Rattle.rule.specs.Expr.{Expr, build, expr_at, expr_of}
-use Rattle.paper.specs.laws.Values.{ItemsDeclared}
+use Rattle.paper.proofs.laws.Values.{ItemsDeclared}
 
 -- the items of a head and of its expressions are declared, and a chain has a step
 abbrev pub HeadDeclared : Counts → List Slot → Head → Type 0

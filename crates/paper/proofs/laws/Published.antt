@@ -24,13 +24,13 @@ use Rattle.judge.specs.Promise.{Judged, Totals}
 use Rattle.judge.specs.Promise.Totals.{counted}
 use Rattle.sense.specs.Demand2.{SameAnswers}
 use Rattle.sense.specs.Says.{Answer}
-use Rattle.sense.specs.laws.Demand2.{demand-2-query}
+use Rattle.sense.proofs.laws.Demand2.{demand-2-query}
 use Rattle.paper.specs.Published.{Published, PublishedStore}
 use Rattle.paper.specs.Satisfied.{ICSatisfies}
 use Rattle.paper.specs.laws.Canonical.{canonical}
 use Rattle.paper.specs.laws.TheoremA.{theorem-a}
-use Rattle.paper.specs.laws.TheoremB.{canonical-minimal, minimal-value}
-use Rattle.paper.specs.laws.TheoremC.{theorem-c, theorem-c-finding}
+use Rattle.paper.proofs.laws.TheoremB.{canonical-minimal, minimal-value}
+use Rattle.paper.proofs.laws.TheoremC.{theorem-c, theorem-c-finding}
 use Rattle.paper.specs.laws.Told.{settled_lines, settled-store}
 
 -- for every list of statements that are made of declared names

@@ -14,7 +14,7 @@ use Rattle.convert.specs.declared.Answer.TheVariants.{Cells, Refused}
 use Rattle.convert.specs.declared.Refusal.{Refusal}
 use Rattle.convert.specs.Promise.{Conversion, ConvertFault, Converts, Moved, NoPlace, Pair, other_width}
 use Rattle.convert.specs.Promise.Converts.{refused, moved}
-use Rattle.convert.specs.laws.Refusals.{converts-unique, moved-closed, none-applies, none-closed, none-fits, place-over, refused-26}
+use Rattle.convert.proofs.laws.Refusals.{converts-unique, moved-closed, none-applies, none-closed, none-fits, place-over, refused-26}
 use Rattle.convert.specs.laws.Width.{other-large, other-other, other-small, other_width-long}
 
 -- a closed store of width W, and a target as long as a store of the other width W'

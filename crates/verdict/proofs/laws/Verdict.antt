@@ -22,7 +22,7 @@ use Rattle.report.specs.Promise.PrintsIn.{wrong_size as wrong-store, printed}
 use Rattle.handover.specs.Room.{InRoom}
 use Rattle.handover.specs.Room.InRoom.{too_long, written}
 use Rattle.paper.specs.laws.Canonical.{Settled, canonical, settled-obeys}
-use Rattle.paper.specs.laws.TheoremB.{canonical-minimal}
+use Rattle.paper.proofs.laws.TheoremB.{canonical-minimal}
 use Rattle.paper.specs.laws.Told.{settled_lines, settled-store}
 use Rattle.verdict.specs.Verdict.{SheetVerdict, answer_of, text_of}
 use Rattle.verdict.specs.Violations.{Violations}

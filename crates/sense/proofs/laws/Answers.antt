@@ -28,7 +28,7 @@ use Rattle.sense.specs.Demand2.Shown.{yes, alone, pair}
 use Rattle.body.specs.laws.Body.{reads-back}
 use Rattle.sense.specs.laws.Says.{Exists, meet-mono, mono, val-var, val-item, val-agree, split, join}
 use Rattle.sense.specs.laws.Fresh.{Below, below_up, below-link, below-expr}
-use Rattle.sense.specs.laws.Means.{link-met, upd, upd_same, upd-range, upd-agree, link-to, link-from, means}
+use Rattle.sense.proofs.laws.Means.{link-met, upd, upd_same, upd-range, upd-agree, link-to, link-from, means}
 use Rattle.body.specs.laws.Length.{head-length, variables-le}
 
 -- ---- values for x and y

@@ -17,15 +17,15 @@ use Rattle.rule.specs.Breaks.{Breaks, BreaksAlone, BreaksPair, Path}
 use Rattle.rule.specs.Expr.{Expr, expr_of}
 use Rattle.rule.specs.Form.{RuleWithin, WellFormed}
 use Rattle.rule.specs.Meaning.{HoldsOf, Linked}
-use Rattle.rule.specs.laws.Told.{holds_of?, linked?}
+use Rattle.rule.proofs.laws.Told.{holds_of?, linked?}
 use Rattle.paper.specs.Interpretation.{Interpretation, Minimal}
 use Rattle.paper.specs.Known.{Composed, KnownOf, KnownRole, Named}
 use Rattle.paper.specs.Satisfied.{ICSatisfies, Meets, ValueBreaks}
 use Rattle.paper.specs.Satisfied.ValueBreaks.{sub, rsub, chain, ref, irr, dis, isin, rel, norel, same, differ}
 use Rattle.paper.specs.laws.Canonical.{Settled, canonical, settled-obeys}
-use Rattle.paper.specs.laws.Names.{HeadDeclared, head-declared}
-use Rattle.paper.specs.laws.TheoremB.{canonical-minimal, minimal-value}
-use Rattle.paper.specs.laws.Values.{ItemsDeclared, composed-named, composed-path, known_of, known-role, of-named, path-composed, role-named}
+use Rattle.paper.proofs.laws.Names.{HeadDeclared, head-declared}
+use Rattle.paper.proofs.laws.TheoremB.{canonical-minimal, minimal-value}
+use Rattle.paper.proofs.laws.Values.{ItemsDeclared, composed-named, composed-path, known_of, known-role, of-named, path-composed, role-named}
 
 -- what breaks a rule, by its nodes and its head
 abbrev HeadBreaks : (Cell → Type 0) → Counts → List Slot → Head → ℕ → Second → Type 0

@@ -13,7 +13,7 @@ use Rattle.convert.specs.Codes.{ConvertCode, code_of}
 use Rattle.convert.specs.Promise.{Converts}
 use Rattle.convert.specs.Promise.Converts.{moved}
 use Rattle.convert.specs.own.Small.{Small}
-use Rattle.convert.specs.laws.Refusals.{converts-unique, none-closed}
+use Rattle.convert.proofs.laws.Refusals.{converts-unique, none-closed}
 
 -- the answer is small
 pub converts-code : {n : Counts} {s t u : List ℕ} (r : Answer) → Words 64 s → Converts n s t u r → Small r

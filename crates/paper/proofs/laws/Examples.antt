@@ -28,7 +28,7 @@ use Rattle.paper.specs.Satisfied.{ICSatisfies}
 use Rattle.paper.specs.laws.Sound.{follows-satisfied}
 use Rattle.paper.specs.laws.Canonical.{settled-within}
 use Rattle.paper.specs.laws.TheoremA.{theorem-a}
-use Rattle.paper.specs.laws.TheoremC.{theorem-c}
+use Rattle.paper.proofs.laws.TheoremC.{theorem-c}
 use Rattle.paper.specs.laws.Told.{settled_lines}
 
 -- ---- the rules are well formed and made of declared names

@@ -24,7 +24,7 @@ use Rattle.query.specs.Promise.Compiles.{compiled}
 use Rattle.sense.specs.Demand2.{Shown, SameAnswers}
 use Rattle.sense.specs.Demand2.Shown.{yes, alone, pair}
 use Rattle.body.specs.laws.Body.{length-flat}
-use Rattle.sense.specs.laws.Answers.{answers-rule}
+use Rattle.sense.proofs.laws.Answers.{answers-rule}
 
 module _ (C : Cell → Type 0) (n : Counts) where
   -- what breaks a rule shows in the answer variables

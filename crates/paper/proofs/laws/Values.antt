@@ -19,7 +19,7 @@ use Rattle.paper.specs.Interpretation.{Interpretation, Minimal}
 use Rattle.paper.specs.Known.{Named, KnownIn, KnownLink, KnownWay, KnownRole, AtLeast, KnownOf, Composed}
 use Rattle.paper.specs.laws.Sound.{follows-satisfied}
 use Rattle.paper.specs.laws.Canonical.{Settled, canonical, canonical-in, canonical-link, settled-obeys}
-use Rattle.paper.specs.laws.TheoremB.{canonical-minimal, minimal-value}
+use Rattle.paper.proofs.laws.TheoremB.{canonical-minimal, minimal-value}
 
 -- the items that an expression names are declared
 unfoldable pub ItemsDeclared : Counts → Expr → Type 0

@@ -1,0 +1,4 @@
+-- Laws that rest on a definition that a must-fail edit turns. Assumes nothing.
+pub mod Refusals
+pub mod Conversion
+pub mod Codes

@@ -1,0 +1,2 @@
+-- Laws that rest on a definition that a must-fail edit turns. Assumes nothing.
+pub mod Accepted

@@ -1,0 +1,3 @@
+-- Laws that rest on a definition that a must-fail edit turns. Assumes nothing.
+pub mod Judged
+pub mod Meant
