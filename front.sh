@@ -2,7 +2,7 @@
 # them. A command sets `name` and `crate`, then sources this file, which lies beside it.
 
 root=$(dirname "$(readlink -f "${BASH_SOURCE[0]}")")
-program=$root/target/bin/$crate
+program=$root/crates/$crate/out/$crate
 
 # Whatever ends the command, it ends with this status: 3 until the work is done.
 status=3
@@ -36,20 +36,22 @@ readable() {
     [[ -r $1 ]] || fail "the file '$1' may not be read"
 }
 
-# Passes on what rt says of each crate as it is proved, without the prover's own lines and the crates that are unchanged.
+# Passes on which crate rt proves and what it says of it, without the prover's own lines and the crates that are unchanged.
 progress() {
-    grep --line-buffered -E '^rt: |: error' | grep --line-buffered -vE 'unchanged since|^rt: ok' >&2 || true
+    awk '/^rt: chose / { print "rt: proving " $NF; fflush(); next }
+        /unchanged since|^rt: ok/ { next }
+        /^rt: |: error/ { print; fflush() }' >&2 || true
 }
 
-# Has rt prove and build the program, four crates at a time; where nothing has changed since, that takes a moment. One call builds at a time.
+# Has rt prove and build the program; where nothing has changed since, that takes a moment. rt also runs the program once, here with nothing to read and no words. One call builds at a time.
 build() {
     command -v rt >/dev/null || fail "rt is missing: install the Rattle kit and put rt on the PATH (README.md, 'What it needs')"
     [[ -x $program ]] || echo "$name: building the program: everything is proved first, which takes some minutes" >&2
     exec {lock}<"$root/crates.txt"
     ! command -v flock >/dev/null || flock "$lock"
-    (cd "$root" && RT_JOBS="${RT_JOBS:-4}" rt check "$crate") </dev/null 2>&1 | progress || fail "the program was not built ('rt check $crate' says more)"
+    (cd "$root/crates/$crate" && rt run) </dev/null 2>&1 >/dev/null | progress || fail "the program was not built ('rt run' in crates/$crate says more)"
     exec {lock}<&-
-    [[ -x $program ]] || fail "rt has left no program: remove the folder target and try again"
+    [[ -x $program ]] || fail "rt has left no program: remove the folder crates/$crate/out and try again"
 }
 
 # Passes on the program's text, and ends the command with the status given.

@@ -26,15 +26,19 @@ FOUND = b"finding\t12\tFB-13\ntotal\t1\n"
 # The stand-ins say and leave what the files beside them hold.
 RT = """#!/usr/bin/env bash
 cat >/dev/null
-echo "rt: $* proved (7 s)"
-echo "rt: logic proved (unchanged since it was last proved)"
-echo "fn logic::any: proved"
-[ ! -e broken ] || exit 1
-[ ! -e lost ] || exit 0
-mkdir -p target/bin && cat program >target/bin/checker && chmod +x target/bin/checker
+echo "total 0, of the run with nothing to read"
+{
+    echo "rt: chose --jobs 2 for ${PWD##*/}"
+    echo "rt: $* proved (7 s)"
+    echo "rt: logic proved (unchanged since it was last proved)"
+    echo "fn logic::any: proved"
+} >&2
+[ ! -e ../../broken ] || exit 1
+[ ! -e ../../lost ] || exit 0
+mkdir -p out && cat ../../program >out/checker && chmod +x out/checker
 """
 PROGRAM = """#!/usr/bin/env bash
-here=$(dirname "$0")/../..
+here=$(dirname "$0")/../../..
 cat >"$here/seen"
 cat "$here/canned"
 [ ! -e "$here/crash" ]
@@ -49,7 +53,7 @@ class Place:
     # Makes the copy in an empty folder.
     def __init__(self, folder):
         self.root, self.bin, self.temporary = folder / "copy", folder / "bin", folder / "temporary"
-        for made in (self.root / "docs", self.bin, self.temporary):
+        for made in (self.root / "docs", self.root / "crates/checker", self.bin, self.temporary):
             made.mkdir(parents=True)
         for name in ("check", "front.sh", "crates.txt", "docs/SHEETS.md"):
             shutil.copy(harness.ROOT / name, self.root / name)
@@ -99,7 +103,8 @@ def test_building(place):
     assert first.out == second.out == FOUND
     assert "building the program" in first.err and "building" not in second.err, (first, second)
     for ended in (first, second):
-        assert "rt: check checker proved (7 s)" in ended.err and "unchanged" not in ended.err and "fn " not in ended.err, ended
+        assert "rt: run proved (7 s)" in ended.err and "rt: proving checker" in ended.err, ended
+        assert "unchanged" not in ended.err and "fn " not in ended.err and "--jobs" not in ended.err, ended
 
 
 # What cannot be built or run ends with 3, a message, and nothing on standard output.
@@ -161,7 +166,7 @@ def test_texts(place):
         heading, *body = ended.out.decode().split("\n\n")
         assert ended.status == 0 and heading.startswith(f"Refusal {number}: ") and body, ended
         assert number == 7 or "Cure: " in ended.out.decode(), ended
-    assert not (place.root / "target").exists()
+    assert not (place.root / "crates/checker/out").exists()
 
 
 # Runs each test in a place of its own; nothing temporary may be left. 0 if all pass.

@@ -12,7 +12,7 @@ COMMAND = r"""#!/usr/bin/env bash
 set -euo pipefail
 crate=tool
 root=$(dirname "$(readlink -f "${BASH_SOURCE[0]}")")
-program=$root/target/bin/$crate
+program=$root/crates/$crate/out/$crate
 status=3
 trap 'exit "$status"' EXIT
 trap '' PIPE
@@ -46,7 +46,7 @@ progress() {
 build() {
     command -v rt >/dev/null || fail "rt is missing"
     [[ -x $program ]] || echo "saltreeve: building the program" >&2
-    (cd "$root" && rt check "$crate") </dev/null 2>&1 | progress || fail "the program was not built"
+    (cd "$root/crates/$crate" && rt run) </dev/null 2>&1 >/dev/null | progress || fail "the program was not built"
     [[ -x $program ]] || fail "rt has left no program"
 }
 

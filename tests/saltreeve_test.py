@@ -38,15 +38,18 @@ QUESTION = ("in", "FB-13", "Blade")
 # The stand-ins say and leave what the files beside them hold; the program is named after the crate that rt is to check.
 RT = """#!/usr/bin/env bash
 cat >/dev/null
-echo "rt: $* proved (7 s)"
-echo "rt: logic proved (unchanged since it was last proved)"
-echo "fn logic::any: proved"
-[ ! -e broken ] || exit 1
-[ ! -e lost ] || exit 0
-mkdir -p target/bin && cp program "target/bin/$2" && chmod +x "target/bin/$2"
+echo "total 0, of the run with nothing to read"
+{
+    echo "rt: $* proved (7 s)"
+    echo "rt: logic proved (unchanged since it was last proved)"
+    echo "fn logic::any: proved"
+} >&2
+[ ! -e ../../broken ] || exit 1
+[ ! -e ../../lost ] || exit 0
+mkdir -p out && cp ../../program "out/${PWD##*/}" && chmod +x "out/${PWD##*/}"
 """
 PROGRAM = """#!/usr/bin/env bash
-here=$(dirname "$0")/../..
+here=$(dirname "$0")/../../..
 for word in "$@"; do printf '%s\\0' "$word"; done >"$here/words"
 readlink -f . >"$here/folder"
 cat >"$here/seen" <&0
@@ -63,7 +66,7 @@ class Place:
     # Makes the copy in an empty folder, with a program or the stand-in for it, and with a text in place of the command.
     def __init__(self, folder, program=None, command=None):
         self.root, self.bin, self.temporary = folder / "copy", folder / "bin", folder / "temporary"
-        for made in (self.root / "docs", self.bin, self.temporary):
+        for made in (self.root / "docs", self.root / "crates/tool", self.root / "crates/checker", self.bin, self.temporary):
             made.mkdir(parents=True)
         for name in COPIED:
             if (harness.ROOT / name).exists():
@@ -205,7 +208,7 @@ def test_check_misuse(place):
                         (("check", "my sheet", "my sheet"), "one sheet at a time"), (("check", "my sheet", *QUESTION), "one sheet at a time"),
                         (("Check", "my sheet"), "Check")):
         assert said in refused(place.run(*words)), words
-    assert not (place.root / "target").exists()
+    assert not (place.root / "crates/tool/out").exists()
     with open("/dev/full", "wb") as full:
         assert "could not be written" in refused(place.check(stdout=full))
     with harness.unread() as pipe:
@@ -224,7 +227,7 @@ def test_check_help(place):
         ended = place.run(*words)
         assert ended.status == 0 and ended.err == "" and "./saltreeve check FILE" in ended.out.decode(), ended
     assert all(f" {status} " in ended.out.decode() for status in range(4)), ended
-    assert not (place.root / "target").exists()
+    assert not (place.root / "crates/tool/out").exists()
 
 
 # Each misuse has its message, which names what is wrong.
@@ -236,7 +239,7 @@ def test_misuse(place):
                         (("why", "."), "a folder"), (("why", ".", *QUESTION), "a folder"), (("--help", "me"), "--help"),
                         (("Why", "my sheet"), "Why"), (("why", "--help", "me"), "--help")):
         assert said in refused(place.run(*words)), words
-    assert not (place.root / "target").exists()
+    assert not (place.root / "crates/tool/out").exists()
     if os.geteuid() != 0:
         (place.temporary / "my sheet").chmod(0)
         assert "may not be read" in refused(place.why(*QUESTION))
@@ -267,7 +270,7 @@ def test_help(place):
         text = ended.out.decode()
         assert ended.status == 0 and ended.err == "" and "./saltreeve why FILE" in text, ended
     assert "finding" in text and all(f" {status} " in text for status in range(4)), text
-    assert not (place.root / "target").exists()
+    assert not (place.root / "crates/tool/out").exists()
 
 
 # --- The answers, with the program itself ---
