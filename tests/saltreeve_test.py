@@ -148,6 +148,18 @@ def test_bytes(place):
     assert ended[:2] == (1, FOUND) and place.sheet() == EVERY_BYTE, ended
 
 
+# So they do where the file's name is no text: the program takes it as its input then.
+def test_named_by_bytes(place):
+    name = b"blatt-\xe4\xff.sheet"
+    sheet = place.temporary / os.fsdecode(name)
+    sheet.write_bytes(EVERY_BYTE)
+    for words, given in ((("check", name), ["check", "/dev/stdin"]), (("why", name), ["why", "/dev/stdin"]),
+                         (("why", name, *QUESTION), ["why", "/dev/stdin", "\t".join(QUESTION)])):
+        assert place.run(*words).out == FOUND and place.words() == given, (words, place.words())
+        assert (place.root / "seen").read_bytes() == EVERY_BYTE, words
+    sheet.unlink()
+
+
 # The words of a question are joined by tabs, each as it is; a word with tabs in it is a whole question.
 def test_question(place):
     for words in (QUESTION, ("in\tFB-13\tBlade",), ("finding", "12", "FB-13"), ("runder", "~r", "*"), ("in", "a b", "$C"),
@@ -376,12 +388,12 @@ def failure(command, program):
 def main():
     if sys.argv[1:] == ["--selftest"]:
         return saltreeve_selftest.run(failure)
-    for test in TESTS:
+    for test in (*TESTS, test_named_by_bytes):
         run_in_place(test)
     with_program = [*WITH_PROGRAM, test_longest] if sys.argv[1:2] else []
     for test in with_program:
         run_in_place(test, sys.argv[1])
-    print(f"saltreeve: {len(TESTS) + len(with_program)} tests of the command pass")
+    print(f"saltreeve: {len(TESTS) + 1 + len(with_program)} tests of the command pass")
     return 0
 
 

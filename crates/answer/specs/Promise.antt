@@ -6,7 +6,7 @@ use Rattle.store.specs.Layout.{Holds}
 use Rattle.field.specs.Names.{counts_of}
 use Rattle.sheet.specs.Promise.{Held, refused_text}
 use Rattle.sheet.specs.Said.{Said, SheetStatement, line_of, outcome}
-use Rattle.sheet.specs.Said.Outcome.{accepted, refused as refusedAt}
+use Rattle.sheet.specs.Said.Outcome.{accepted, refused as refused_at}
 use Rattle.finding.specs.Finding.{BrokenSub, not_broken}
 use Rattle.why.specs.Listed.{lines_of}
 use Rattle.why.specs.Promise.{not_true}
@@ -18,7 +18,7 @@ use Rattle.cited.specs.Text.{absent_text, reason_text}
 -- Of a statement: 24 if its cell is not true or it asks for none; otherwise the lines of a reason for the cell, and their total.
 -- Of a finding: 25 if it is none of a `sub` rule with concept names on both sides; otherwise the lines of a reason for the left cell, the right cell as absent, and the total of the lines.
 pub data Answers (W : ℕ) (sheet question : List ℕ) : List ℕ → Type 0 where
-  refused : {n k : ℕ} {x : Said} → outcome W sheet ≡ refusedAt n k x → Answers W sheet question (refused_text n k)
+  refused : {n k : ℕ} {x : Said} → outcome W sheet ≡ refused_at n k x → Answers W sheet question (refused_text n k)
   not-true : {x : Said} {t : List ℕ} → outcome W sheet ≡ accepted x → Held W x t → about_finding (bare question) ≡ false
       → ((c : Cell) → AsksCell x.names (bare question) c → ¬ (Holds W (counts_of x.names) t c)) → Answers W sheet question (refused_text 0 not_true)
   found : {x : Said} {c : Cell} {ls : List SheetStatement} → outcome W sheet ≡ accepted x → about_finding (bare question) ≡ false → AsksCell x.names (bare question) c

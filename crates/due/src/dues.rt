@@ -1,11 +1,11 @@
 ghost use Rattle.std.specs.Prelude.{◌≡◌, max, min, get_or};
-ghost use Rattle.field.specs.Due.{one as oneDue, two as twoDues, three as threeDues, chain as chainDues, chain_longest, chain_shortest, statement_lineup, rule_lineup, lineup_of, dues, is_expr};
+ghost use Rattle.field.specs.Due.{one as one_due, two as two_dues, three as three_dues, chain as chain_dues, chain_longest, chain_shortest, statement_lineup, rule_lineup, lineup_of, dues, is_expr};
 
 use field::{Due, Form, Lineup, RuleWord, StatementWord};
 
 // One field.
 fn one(a: Due) -> Lineup
-    ensures { result ≡ oneDue a }
+    ensures { result ≡ one_due a }
 {
     Lineup {
         count: 1,
@@ -19,7 +19,7 @@ fn one(a: Due) -> Lineup
 
 // Two fields.
 fn two(a: Due, b: Due) -> Lineup
-    ensures { result ≡ twoDues a b }
+    ensures { result ≡ two_dues a b }
 {
     Lineup {
         count: 2,
@@ -33,7 +33,7 @@ fn two(a: Due, b: Due) -> Lineup
 
 // Three fields.
 fn three(a: Due, b: Due, c: Due) -> Lineup
-    ensures { result ≡ threeDues a b c }
+    ensures { result ≡ three_dues a b c }
 {
     Lineup {
         count: 3,
@@ -60,7 +60,7 @@ fn chain_count(n: usize) -> usize
 
 // The roles of a chain, in a line with so many fields.
 fn chain(n: usize) -> Lineup
-    ensures { result ≡ chainDues n }
+    ensures { result ≡ chain_dues n }
 {
     Lineup {
         count: chain_count(n),

@@ -7,7 +7,7 @@ ghost use Rattle.store.specs.Layout.{ClosedStore, Holds};
 ghost use Rattle.store.specs.own.Laid.{Laid};
 ghost use Rattle.rule.specs.Meaning.{Articles, Linked};
 ghost use Rattle.links.specs.own.Reach.{Reached};
-ghost use Rattle.expression.specs.own.Row.{Found, turned as turnedOf};
+ghost use Rattle.expression.specs.own.Row.{Found, turned as turned_of};
 
 use row::{ROOM, Row};
 use rule::RoleUse;
@@ -48,7 +48,7 @@ fn linked_count(words: &[u64], at: Layout, counts: Counts, u: RoleUse, p: &Row, 
 
 // Of the items of the row q, which the role, or its inverse, links to items of the row p: those that it links to at least k different articles of p.
 fn several(words: &[u64], at: Layout, counts: Counts, k: usize, u: RoleUse, p: &Row, q: &Row) -> Row
-    requires { Laid at words.now × ClosedStore at.width counts words.now × (1 ≤ k) × Marks counts.items q.now (Reached (Linked (Holds at.width counts words.now) (turnedOf u)) (RowHas p.now)) }
+    requires { Laid at words.now × ClosedStore at.width counts words.now × (1 ≤ k) × Marks counts.items q.now (Reached (Linked (Holds at.width counts words.now) (turned_of u)) (RowHas p.now)) }
     ensures { Marks counts.items result (λ x. Articles (Holds at.width counts words.now) counts k (Found (Holds at.width counts words.now) u (RowHas p.now) x)) }
 {
     let mut lead = reached(words, at, counts, u, p, q);
@@ -72,7 +72,7 @@ fn several(words: &[u64], at: Layout, counts: Counts, k: usize, u: RoleUse, p: &
 
 // The role, if this is its inverse; the inverse, if it is the role.
 fn turned(u: RoleUse) -> RoleUse
-    ensures { result ≡ turnedOf u }
+    ensures { result ≡ turned_of u }
 {
     let role = u.role;
     let inverse = u.inverse;

@@ -2,7 +2,7 @@ ghost use Rattle.std.specs.Prelude.{◌≡◌, map, ◌+◌, ◌≤◌, ◌<◌,
 ghost use Rattle.logic.specs.Number.{Distinct};
 ghost use Rattle.store.specs.Layout.{large};
 ghost use Rattle.text.specs.Bytes.{place, same};
-ghost use Rattle.field.specs.Names.{inverted as invertedOf, plain as plain_of, count_of};
+ghost use Rattle.field.specs.Names.{inverted as inverted_of, plain as plain_of, count_of};
 ghost use Rattle.field.specs.own.Table.{Hinted, Placed, Tidy, concepts_from, entered, hint_at, hint_count, key_of, name_at, names_of, number_count, room_at, room_of, table_of, tag_count, tag_of};
 
 use crate::Table;
@@ -150,7 +150,7 @@ pub fn item(sheet: &[u8], names: &[u32], counts: Counts, w: &[u8]) -> usize
 
 // Whether `~` stands before a role.
 pub fn inverted(f: &[u8]) -> bool
-    ensures { result ≡ invertedOf f.now }
+    ensures { result ≡ inverted_of f.now }
 {
     if 0 < f.len() {
         return f[0] == 126;

@@ -1,6 +1,6 @@
 ghost use Rattle.std.specs.Prelude.{◌≡◌};
 ghost use Rattle.text.specs.Split.{fields};
-ghost use Rattle.field.specs.Names.{reserved as reservedOf};
+ghost use Rattle.field.specs.Names.{reserved as reserved_of};
 ghost use Rattle.field.specs.Words.{form_of, is_rule, line_form, operator_of, rule_form, section_of};
 ghost use Rattle.field.specs.own.Code.{is_word};
 ghost use Rattle.field.specs.own.Line.{Looked, words_of};
@@ -61,7 +61,7 @@ fn is_word(w: Operator) -> bool
 
 // Whether a field is one of the words of expressions.
 pub fn reserved(f: &[u8]) -> bool
-    ensures { result ≡ reservedOf f.now }
+    ensures { result ≡ reserved_of f.now }
 {
     is_word(operator(f))
 }

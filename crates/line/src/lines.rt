@@ -4,7 +4,7 @@ ghost use Rattle.text.specs.Name.{line_byte};
 ghost use Rattle.text.specs.Split.{fields};
 ghost use Rattle.rule.specs.Form.{node_limit};
 ghost use Rattle.field.specs.Names.{fault};
-ghost use Rattle.line.specs.Fault.{ended as endedBy, fields_fault, form_fault, full as fullBy, headed as headedBy, header_fault, is_second, line_fault, line_limit, room_by, unknown as unknownBy};
+ghost use Rattle.line.specs.Fault.{ended as ended_by, fields_fault, form_fault, full as full_by, headed as headed_by, header_fault, is_second, line_fault, line_limit, room_by, unknown as unknown_by};
 ghost use Rattle.field.specs.own.Table.{Tidy, names_of, table_of};
 ghost use Rattle.field.specs.Words.{body_of, form_of};
 ghost use Rattle.field.specs.own.Line.{Looked, words_of};
@@ -16,7 +16,7 @@ use store::{Counts, Store};
 
 // Whether the section has ended.
 fn ended(m: Marks, s: Section) -> bool
-    ensures { result ≡ endedBy m s }
+    ensures { result ≡ ended_by m s }
 {
     match s {
         Section::Declarations => {
@@ -33,7 +33,7 @@ fn ended(m: Marks, s: Section) -> bool
 
 // Whether the word of the section is unknown.
 fn unknown(s: Section) -> bool
-    ensures { result ≡ unknownBy s }
+    ensures { result ≡ unknown_by s }
 {
     match s {
         Section::Declarations => false,
@@ -45,7 +45,7 @@ fn unknown(s: Section) -> bool
 
 // Whether there is no room for one more rule.
 fn full(m: Marks, s: Section) -> bool
-    ensures { result ≡ fullBy m s }
+    ensures { result ≡ full_by m s }
 {
     match s {
         Section::Declarations => false,
@@ -158,7 +158,7 @@ fn second(line: &[u8]) -> bool
 
 // Whether line 1 is a header that a store with item rows of so many words takes.
 fn headed(width: usize, line: &[u8]) -> bool
-    ensures { result ≡ headedBy width line.now }
+    ensures { result ≡ headed_by width line.now }
 {
     if text::part::same(line, b"sheet\t1") {
         return true;

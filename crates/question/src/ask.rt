@@ -4,7 +4,7 @@ ghost use Rattle.field.specs.own.Line.{Looked};
 ghost use Rattle.text.specs.Split.{fields};
 ghost use Rattle.field.specs.own.Table.{Tidy, names_of, table_of};
 ghost use Rattle.field.specs.Words.{body_of, form_of};
-ghost use Rattle.question.specs.Question.{about_finding, bare as bareOf};
+ghost use Rattle.question.specs.Question.{about_finding, bare as bare_of};
 ghost use Rattle.question.specs.own.Asked.{Asking, FormAsked};
 
 use crate::CellAsked;
@@ -14,7 +14,7 @@ use store::{Counts, Item, Statement};
 
 // The question without a line feed at its end.
 pub fn bare(question: &[u8]) -> &[u8]
-    ensures { result.now ≡ bareOf question.now }
+    ensures { result.now ≡ bare_of question.now }
 {
     let n = question.len();
     if 0 < n {

@@ -2,13 +2,13 @@
 ghost use Rattle.std.specs.Prelude.{◌≡◌, ◌≤◌, length};
 ghost use Rattle.rule.specs.Form.{node_limit};
 ghost use Rattle.packed.specs.own.Packed.{pack_limit, unpacked};
-ghost use Rattle.saying.specs.Read.{blank as blankSlots, laid};
+ghost use Rattle.saying.specs.Read.{blank as blank_slots, laid};
 
 use rule::{Node, Rule, Slot};
 
 // Places without nodes.
 pub fn blank() -> [Slot; Rule::NODES]
-    ensures { result ≡ blankSlots }
+    ensures { result ≡ blank_slots }
 {
     [Slot { node: Node::Top }; Rule::NODES]
 }

@@ -3,7 +3,7 @@ ghost use Rattle.text.specs.Split.{fields};
 ghost use Rattle.field.specs.own.Line.{Looked};
 ghost use Rattle.field.specs.own.Table.{Tidy, names_of, table_of};
 ghost use Rattle.saying.specs.own.Nodes.{RuleReady};
-ghost use Rattle.saying.specs.Read.{bare as bareRule, chain_of, rule_of};
+ghost use Rattle.saying.specs.Read.{bare as bare_rule, chain_of, rule_of};
 
 use crate::Parsed;
 use field::RuleWord;
@@ -13,7 +13,7 @@ use store::Counts;
 
 // A rule without expressions.
 pub fn bare(head: Head) -> Rule
-    ensures { result ≡ bareRule head }
+    ensures { result ≡ bare_rule head }
 {
     Rule {
         head,

@@ -16,7 +16,7 @@ use Rattle.sheet.specs.declared.Reading.TheVariants as reading
 use Rattle.line.specs.Fault.{begun}
 use Rattle.field.specs.Names.{Names, counts_of}
 use Rattle.sheet.specs.Said.{Said, SheetRule, StatedIn, Outcome, line_of, marks_of, outcome}
-use Rattle.sheet.specs.Said.Outcome.{refused as refusedAt, accepted as acceptedSheet}
+use Rattle.sheet.specs.Said.Outcome.{refused as refused_at, accepted as accepted_sheet}
 
 -- the most findings that are printed
 abbrev pub print_limit : ℕ
@@ -33,9 +33,9 @@ Stopped W true x t = Held W x t
 
 -- what the lent store s has become, t: untouched where the sheet is refused as a whole
 abbrev pub Leaves : ℕ → Outcome → List ℕ → List ℕ → Type 0
-Leaves W (refusedAt zero k x) s t = t ≡ s
-Leaves W (refusedAt (suc n) k x) s t = Stopped W (begun (marks_of x)) x t
-Leaves W (acceptedSheet x) s t = Held W x t
+Leaves W (refused_at zero k x) s t = t ≡ s
+Leaves W (refused_at (suc n) k x) s t = Stopped W (begun (marks_of x)) x t
+Leaves W (accepted_sheet x) s t = Held W x t
 
 -- the findings of rules in the cells C, by rule: the first rule has the number k
 pub data FindingsFrom (C : Cell → Type 0) (n : Counts) : ℕ → List SheetRule → List Finding → Type 0 where
@@ -49,8 +49,8 @@ FindingsIn W x t fs = FindingsFrom (Holds W (counts_of x.names) t) (counts_of x.
 -- the answer of reading the sheet into the store s, which becomes t. Of the store only its length is asked: 1
 pub data Reads (sheet s t : List ℕ) : Reading → Type 0 where
   wrong_size : ¬ (length s ≡ size (width_of s)) → t ≡ s → Reads sheet s t (reading.Refused 0 1)
-  refused : {n k : ℕ} {x : Said} → length s ≡ size (width_of s) → outcome (width_of s) sheet ≡ refusedAt n k x → Leaves (width_of s) (refusedAt n k x) s t → Reads sheet s t (reading.Refused n k)
-  accepted : {x : Said} {fs : List Finding} → length s ≡ size (width_of s) → outcome (width_of s) sheet ≡ acceptedSheet x → Leaves (width_of s) (acceptedSheet x) s t → FindingsIn (width_of s) x t fs
+  refused : {n k : ℕ} {x : Said} → length s ≡ size (width_of s) → outcome (width_of s) sheet ≡ refused_at n k x → Leaves (width_of s) (refused_at n k x) s t → Reads sheet s t (reading.Refused n k)
+  accepted : {x : Said} {fs : List Finding} → length s ≡ size (width_of s) → outcome (width_of s) sheet ≡ accepted_sheet x → Leaves (width_of s) (accepted_sheet x) s t → FindingsIn (width_of s) x t fs
       → Reads sheet s t (reading.Accepted (counts_of x.names) (length x.rules) (length fs))
 
 -- a field after a tab
@@ -83,6 +83,6 @@ refused_text n k = bytes "refused" ++ tabbed (decimal n) ++ tabbed (decimal k) +
 
 -- the text that is printed for a sheet, with a store of row width W: of an accepted one its findings, in a store that holds exactly what follows, 200 at most, and their total
 pub data Prints (W : ℕ) (sheet : List ℕ) : List ℕ → Type 0 where
-  refused : {n k : ℕ} {x : Said} → outcome W sheet ≡ refusedAt n k x → Prints W sheet (refused_text n k)
-  accepted : {x : Said} {t : List ℕ} {fs : List Finding} → outcome W sheet ≡ acceptedSheet x → Words 64 t → Held W x t → FindingsIn W x t fs
+  refused : {n k : ℕ} {x : Said} → outcome W sheet ≡ refused_at n k x → Prints W sheet (refused_text n k)
+  accepted : {x : Said} {t : List ℕ} {fs : List Finding} → outcome W sheet ≡ accepted_sheet x → Words 64 t → Held W x t → FindingsIn W x t fs
       → Prints W sheet (findings_text x (take print_limit fs) ++ total_text (length fs))

@@ -3,7 +3,7 @@ ghost use Rattle.store.specs.Cell.{With, Within, cell_of};
 ghost use Rattle.store.specs.Layout.{ClosedStore, Fits, Holds, size};
 ghost use Rattle.store.specs.Keeps.{Keeps};
 ghost use Rattle.store.specs.own.Laid.{Laid};
-ghost use Rattle.line.specs.Fault.{begun as begunBy};
+ghost use Rattle.line.specs.Fault.{begun as begun_by};
 ghost use Rattle.sheet.specs.own.Stands.{Begins};
 
 use line::Marks;
@@ -11,7 +11,7 @@ use store::{Counts, Layout, Statement};
 
 // Whether a statement or a rule was accepted.
 fn begun(m: Marks) -> bool
-    ensures { result ≡ begunBy m }
+    ensures { result ≡ begun_by m }
 {
     if m.stated {
         return true;
@@ -21,8 +21,8 @@ fn begun(m: Marks) -> bool
 
 // Makes the store fresh, unless a statement or a rule was accepted before; until then its words are all 0.
 pub fn begin(words: &mut [u64], at: Layout, counts: Counts, m: Marks)
-    requires { (begunBy m ≡ false → words.old ≡ replicate (size at.width) 0) × Fits at.width counts × Laid at words.old }
-    ensures { Begins at.width (begunBy m) counts words.old words.new }
+    requires { (begun_by m ≡ false → words.old ≡ replicate (size at.width) 0) × Fits at.width counts × Laid at words.old }
+    ensures { Begins at.width (begun_by m) counts words.old words.new }
 {
     if begun(m) {
         return;

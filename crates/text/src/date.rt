@@ -1,13 +1,13 @@
 ghost use Rattle.std.specs.Prelude.{◌≡◌};
-ghost use Rattle.text.specs.Bytes.{lower as lowerOf};
-ghost use Rattle.text.specs.Date.{digit as digitOf, two_digits, month as monthOf, days_in, dated, date_shaped};
+ghost use Rattle.text.specs.Bytes.{lower as lower_of};
+ghost use Rattle.text.specs.Date.{digit as digit_of, two_digits, month as month_of, days_in, dated, date_shaped};
 
 // The days of the months, 29 in February.
 const DAYS: [u8; 12] = [31, 29, 31, 30, 31, 30, 31, 31, 30, 31, 30, 31];
 
 // A-Z as a-z.
 fn lower(b: u8) -> u8
-    ensures { result ≡ lowerOf b }
+    ensures { result ≡ lower_of b }
 {
     if 65 <= b {
         if b <= 90 {
@@ -20,7 +20,7 @@ fn lower(b: u8) -> u8
 
 // The place of the month with these first letters, from 0; 12 where there is none.
 fn month(a: u8, b: u8, c: u8) -> usize
-    ensures { result ≡ monthOf a b c }
+    ensures { result ≡ month_of a b c }
 {
     let letters = [lower(a), lower(b), lower(c)];
     crate::part::place(&letters, b"jan feb mar apr may jun jul aug sep oct nov dec")
@@ -28,7 +28,7 @@ fn month(a: u8, b: u8, c: u8) -> usize
 
 // The value of a digit, or 255.
 pub fn digit(b: u8) -> u8
-    ensures { result ≡ digitOf b }
+    ensures { result ≡ digit_of b }
 {
     if 48 <= b {
         if b <= 57 {
@@ -66,7 +66,7 @@ fn days_in(month: usize) -> u8
 
 // Whether a day's value, a byte and three letters make a date.
 fn is_date(day: u8, hyphen: u8, a: u8, b: u8, c: u8) -> bool
-    ensures { result ≡ dated day hyphen (monthOf a b c) }
+    ensures { result ≡ dated day hyphen (month_of a b c) }
 {
     if hyphen == 45 {
         if 1 <= day {

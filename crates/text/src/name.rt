@@ -1,5 +1,5 @@
 ghost use Rattle.std.specs.Prelude.{◌≡◌};
-ghost use Rattle.text.specs.Bytes.{between as betweenOf, every};
+ghost use Rattle.text.specs.Bytes.{between as between_of, every};
 ghost use Rattle.text.specs.Name.{line_byte, name_byte, is_name};
 
 // A name of a concept, a role or an item.
@@ -13,7 +13,7 @@ impl Name {
 
 // Whether b is at least a and at most c.
 fn between(a: u8, b: u8, c: u8) -> bool
-    ensures { result ≡ betweenOf a b c }
+    ensures { result ≡ between_of a b c }
 {
     if a <= b {
         return b <= c;

@@ -1,11 +1,11 @@
 ghost use Rattle.std.specs.Prelude.{◌≡◌, length};
-ghost use Rattle.text.specs.Bytes.{same as sameBytes, place as place_of};
+ghost use Rattle.text.specs.Bytes.{same as same_bytes, place as place_of};
 ghost use Rattle.text.specs.own.Split.{part_of, end_of};
 ghost use Rattle.text.specs.Split.{split};
 
 // Whether the bytes are the same; the last ones are compared first, as names that are alike mostly differ at their end.
 pub fn same(a: &[u8], b: &[u8]) -> bool
-    ensures { result ≡ sameBytes a.now b.now }
+    ensures { result ≡ same_bytes a.now b.now }
 {
     if a.len() != b.len() {
         return false;

@@ -13,7 +13,7 @@ use Rattle.sheet.specs.laws.Unique.{reads-unique}
 use Rattle.why.specs.laws.Settled.{not-refused, reading-same, same_store}
 use Rattle.finding.specs.declared.FindingExplained.{FindingExplained}
 use Rattle.finding.specs.Finding.{BrokenSub, ExplainsFinding, SubOfNames, concept}
-use Rattle.finding.specs.Finding.ExplainsFinding.{refused as refusedFinding, not-broken, found as foundFinding}
+use Rattle.finding.specs.Finding.ExplainsFinding.{refused as refused_finding, not-broken, found as found_finding}
 use Rattle.finding.specs.Settled.{SameFinding}
 use Rattle.finding.specs.laws.Finding.{right_unique, rule-unique}
 
@@ -30,14 +30,14 @@ broken-right-unique {c' = c'} {d' = d'} b g = right_unique b.names (subst (λ (u
 
 pub finding-settled : {sheet s t u : List ℕ} {k a : ℕ} {before after other : List ℕ} {r q : FindingExplained} → Words 64 t → Words 64 u → ExplainsFinding sheet s t k a before after r → ExplainsFinding sheet s u k a before other q
     → (t ≡ u) × SameFinding r q
-finding-settled {sheet} {s} wt wu (refusedFinding a e) (refusedFinding b f) = let z = reads-unique wt wu a b in (z.0, reading-same z.1)
-finding-settled {sheet} {s} wt wu (refusedFinding a e) (not-broken {x = y} l o h g f) = absurd (not-refused y l o a tt)
-finding-settled {sheet} {s} wt wu (refusedFinding a e) (foundFinding {x = y} l o h g r f) = absurd (not-refused y l o a tt)
-finding-settled {sheet} {s} wt wu (not-broken {x = x} l o h g f) (refusedFinding b e) = absurd (not-refused x l o b tt)
+finding-settled {sheet} {s} wt wu (refused_finding a e) (refused_finding b f) = let z = reads-unique wt wu a b in (z.0, reading-same z.1)
+finding-settled {sheet} {s} wt wu (refused_finding a e) (not-broken {x = y} l o h g f) = absurd (not-refused y l o a tt)
+finding-settled {sheet} {s} wt wu (refused_finding a e) (found_finding {x = y} l o h g r f) = absurd (not-refused y l o a tt)
+finding-settled {sheet} {s} wt wu (not-broken {x = x} l o h g f) (refused_finding b e) = absurd (not-refused x l o b tt)
 finding-settled {sheet} {s} wt wu (not-broken {x = x} l o h g f) (not-broken {x = y} m p i j e) = (same_store (width_of s) sheet x y wt wu o p h i, (refl, refl))
-finding-settled {sheet} {s} wt wu (not-broken {x = x} l o h g f) (foundFinding {x = y} m p i j r e) = absurd (g _ _ (broken-there (width_of s) sheet x y (same_store (width_of s) sheet x y wt wu o p h i) o p j))
-finding-settled {sheet} {s} wt wu (foundFinding {x = x} l o h g r f) (refusedFinding b e) = absurd (not-refused x l o b tt)
-finding-settled {sheet} {s} wt wu (foundFinding {x = x} l o h g r f) (not-broken {x = y} m p i j e) = absurd (j _ _ (broken-there (width_of s) sheet y x (same_store (width_of s) sheet y x wu wt p o i h) p o g))
-finding-settled {sheet} {s} wt wu (foundFinding {x = x} l o h g r f) (foundFinding {x = y} m p i j w e) =
+finding-settled {sheet} {s} wt wu (not-broken {x = x} l o h g f) (found_finding {x = y} m p i j r e) = absurd (g _ _ (broken-there (width_of s) sheet x y (same_store (width_of s) sheet x y wt wu o p h i) o p j))
+finding-settled {sheet} {s} wt wu (found_finding {x = x} l o h g r f) (refused_finding b e) = absurd (not-refused x l o b tt)
+finding-settled {sheet} {s} wt wu (found_finding {x = x} l o h g r f) (not-broken {x = y} m p i j e) = absurd (j _ _ (broken-there (width_of s) sheet y x (same_store (width_of s) sheet y x wu wt p o i h) p o g))
+finding-settled {sheet} {s} wt wu (found_finding {x = x} l o h g r f) (found_finding {x = y} m p i j w e) =
     let same = same_store (width_of s) sheet x y wt wu o p h i in
     (same, broken-right-unique g (broken-there (width_of s) sheet x y same o p j))

@@ -6,7 +6,7 @@ use Rattle.rule.specs.declared.Finding.{Finding}
 use Rattle.judge.specs.Promise.{filled}
 use Rattle.sheet.specs.declared.Reading.{Reading}
 use Rattle.sheet.specs.Promise.{Reads}
-use Rattle.sheet.specs.Promise.Reads.{accepted as acceptedRead}
+use Rattle.sheet.specs.Promise.Reads.{accepted as accepted_read}
 use Rattle.sheet.specs.laws.Pass.{said_of}
 use Rattle.sheet.specs.laws.Unique.{found-unique, reads-unique}
 use Rattle.trail.specs.declared.Opening.{Opening}
@@ -33,7 +33,7 @@ reads-by {sheet} {s} {t} {numbers} {before} {after} {p} a w = go a.begins
 -- reading with a list reads the sheet as reading without one does
 pub into-reads : {sheet s t : List ℕ} {before after : List Finding} {r : Reading} → ReadsInto sheet s t before after r → Reads sheet s t r
 into-reads (refused r e) = r
-into-reads (accepted l o h f e) = acceptedRead l o h f
+into-reads (accepted l o h f e) = accepted_read l o h f
 
 -- the list afterwards
 into-list : {sheet s t u : List ℕ} {before after other : List Finding} {r q : Reading} → Words 64 t → Words 64 u → r ≡ q → ReadsInto sheet s t before after r → ReadsInto sheet s u before other q → after ≡ other

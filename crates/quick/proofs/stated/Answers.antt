@@ -5,7 +5,7 @@ use Rattle.quick.specs.laws.Quick.{finds-none, other-form, stated-word, states}
 use Rattle.quick.proofs.stated.Goals as goal
 
 pub returns-then-m-ne0 : goal.returns-then-m-ne0
-returns-then-m-ne0 c = finds-none c.untold.ensures (λ z d. omega (arith, d.early, c.if-m-ne0.true))
+returns-then-m-ne0 c = finds-none c.untold.ensures (λ z d. grind (arith, d.early, c.if-m-ne0.true))
 
 pub returns-in-Concept : goal.returns-in-Concept
 returns-in-Concept c = other-form c.untold-in-Concept.ensures c.form-f.ensures (ap states c.in-Concept.is)

@@ -9,7 +9,7 @@ use Rattle.sheet.specs.Promise.{Held, Prints, findings_text, print_limit, total_
 use Rattle.sheet.specs.Promise.FindingsFrom.{none}
 use Rattle.sheet.specs.Promise.Prints.{accepted}
 use Rattle.sheet.specs.Said.{Said, SheetRule, line_of, outcome}
-use Rattle.sheet.specs.Said.Outcome.{accepted as acceptedSheet}
+use Rattle.sheet.specs.Said.Outcome.{accepted as accepted_sheet}
 use Rattle.printed.specs.declared.Tally.{Tally}
 use Rattle.printed.specs.own.Lines.{Tallied, lines_text}
 use Rattle.report.specs.own.Pages.{Printed}
@@ -52,7 +52,7 @@ printed-more {W} {x} {t} {done} {room} {mid} {exit} {at} {b} {r} q rest e w z = 
     text = findings-more x print_limit w.list z.list ∙ ap (λ (u : List ℕ). findings_text x (take print_limit w.list) ++ u) here
 
 -- all rules are judged and the total is written: that is what is printed of the sheet
-pub printed-all : {W : ℕ} {sheet : List ℕ} {x : Said} {t room mid exit : List ℕ} {b : Tally} {at r : ℕ} → outcome W sheet ≡ acceptedSheet x → Words 64 t → Held W x t → Printed W x t x.rules room at mid b
+pub printed-all : {W : ℕ} {sheet : List ℕ} {x : Said} {t room mid exit : List ℕ} {b : Tally} {at r : ℕ} → outcome W sheet ≡ accepted_sheet x → Words 64 t → Held W x t → Printed W x t x.rules room at mid b
     → Wrote mid b.at (total_text b.total) exit r → (text : List ℕ) × Prints W sheet text × Wrote room at text exit r
 printed-all {W} {sheet} {x} {t} {room} {mid} {exit} {b} {at} {r} o words held w z = (
   findings_text x (take print_limit w.list) ++ total_text (length w.list),

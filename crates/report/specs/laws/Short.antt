@@ -17,7 +17,7 @@ use Rattle.line.specs.Fault.{rule_limit, sheet_limit}
 use Rattle.sheet.specs.Promise.{FindingsIn, Held, Prints, finding_text, findings_text, print_limit, refused_text, second_text, total_text}
 use Rattle.sheet.specs.Promise.Prints.{refused, accepted}
 use Rattle.sheet.specs.Said.{Said, line_of, outcome}
-use Rattle.sheet.specs.Said.Outcome.{accepted as acceptedSheet}
+use Rattle.sheet.specs.Said.Outcome.{accepted as accepted_sheet}
 use Rattle.sheet.specs.laws.Few.{few-from}
 use Rattle.sheet.specs.laws.Refused.{refused-small}
 use Rattle.sheet.specs.laws.Slight.{Slight, sheet-slight}
@@ -50,7 +50,7 @@ unfolding total_text
 total-short d n h = let l : length (decimal n) ≤ suc d = decimal-digits d n h in simp length-append (omega arith)
 
 -- the text of an accepted sheet with at most m items, and a total of so many digits
-text-short : (W : ℕ) (sheet : List ℕ) {t : List ℕ} {x : Said} {fs : List Finding} (m d : ℕ) → outcome W sheet ≡ acceptedSheet x → Held W x t → FindingsIn W x t fs → (counts_of x.names).items ≤ m → m * suc m * rule_limit < 10 ^ suc d
+text-short : (W : ℕ) (sheet : List ℕ) {t : List ℕ} {x : Said} {fs : List Finding} (m d : ℕ) → outcome W sheet ≡ accepted_sheet x → Held W x t → FindingsIn W x t fs → (counts_of x.names).items ≤ m → m * suc m * rule_limit < 10 ^ suc d
     → length (findings_text x (take print_limit fs) ++ total_text (length fs)) ≤ 12808 + d
 text-short W sheet {x = x} {fs = fs} m d o held found few more =
     let s = sheet-slight W sheet o in

@@ -12,7 +12,7 @@ use Rattle.rule.specs.Expr.{Expr, build, expr_at}
 use Rattle.rule.specs.Expr.Expr.{name}
 use Rattle.rule.specs.Form.{HeadFits, NodeWithin, node_at}
 use Rattle.reason.specs.Part.{Part}
-use Rattle.reason.specs.Part.Part.{none as nonePart, keep, leave}
+use Rattle.reason.specs.Part.Part.{none as none_part, keep, leave}
 use Rattle.field.specs.declared.Due.TheVariants as due
 use Rattle.field.specs.declared.Form.{Form}
 use Rattle.field.specs.declared.Form.TheVariants as form
@@ -21,7 +21,7 @@ use Rattle.field.specs.Due.{none}
 use Rattle.line.specs.Fault.{line_fault}
 use Rattle.field.specs.Names.{counts_of}
 use Rattle.sheet.specs.Promise.{Reads}
-use Rattle.sheet.specs.Promise.Reads.{wrong_size, refused as refusedRead}
+use Rattle.sheet.specs.Promise.Reads.{wrong_size, refused as refused_read}
 use Rattle.field.specs.Words.{at, Field, body_of, form_of}
 use Rattle.saying.specs.Read.{rule_of}
 use Rattle.sheet.specs.Said.{Said, SheetRule, SheetStatement, line_said, marks_of, nothing, outcome, outcome_from, saying}
@@ -34,9 +34,9 @@ use Rattle.sheet.specs.laws.Refused.{refused-small}
 use Rattle.why.specs.declared.Explained.{Explained}
 use Rattle.finding.specs.declared.FindingExplained.{FindingExplained}
 use Rattle.finding.specs.Finding.{BrokenSub, ExplainsFinding, SubOfNames, concept}
-use Rattle.finding.specs.Finding.ExplainsFinding.{refused as refusedFinding, not-broken, found as foundFinding}
+use Rattle.finding.specs.Finding.ExplainsFinding.{refused as refused_finding, not-broken, found as found_finding}
 use Rattle.why.specs.Promise.{Explains}
-use Rattle.why.specs.Promise.Explains.{refused as refusedCell, not-true, found}
+use Rattle.why.specs.Promise.Explains.{refused as refused_cell, not-true, found}
 use Rattle.why.specs.Reason.{Reason}
 use Rattle.why.specs.laws.Few.{statements-few}
 use Rattle.signed.specs.Codes.{SmallExplained, SmallFinding}
@@ -45,7 +45,7 @@ use Rattle.signed.specs.Codes.{SmallExplained, SmallFinding}
 
 -- a part is not longer than the list
 part-few : {A : Type 0} {ps xs : List A} → Part ps xs → length ps ≤ length xs
-part-few nonePart = omega arith
+part-few none_part = omega arith
 part-few (keep p) = omega (arith, part-few p)
 part-few (leave p) = omega (arith, part-few p)
 
@@ -58,7 +58,7 @@ lines-few W sheet x o r = omega (arith, part-few r.part, statements-few W sheet 
 -- a refusal has a line below a million and a number below a hundred, that of the store too
 pub reads-small : {sheet s t : List ℕ} {n j : ℕ} → Reads sheet s t (reading.Refused n j) → (n < 1000000) × (j < 100)
 reads-small {sheet} (wrong_size z e) = (omega arith, omega arith)
-reads-small {sheet} (refusedRead l o h) = let z = refused-small _ sheet o in (omega arith, z.1)
+reads-small {sheet} (refused_read l o h) = let z = refused-small _ sheet o in (omega arith, z.1)
 
 -- ---- the concepts of a rule
 
@@ -149,12 +149,12 @@ concept-small W sheet {x} o b =
 
 -- for a cell
 pub explained-small : {sheet s t : List ℕ} {c : Cell} {before after : List ℕ} {r : Explained} → Explains sheet s t c before after r → SmallExplained r
-explained-small {sheet} (refusedCell a e) = reads-small a
+explained-small {sheet} (refused_cell a e) = reads-small a
 explained-small {sheet} (not-true l o h g e) = (omega arith, omega arith)
 explained-small {sheet} (found {x = x} l o h r e) = omega (arith, lines-few _ sheet x o r)
 
 -- for a finding
 pub finding-small : {sheet s t : List ℕ} {k a : ℕ} {before after : List ℕ} {r : FindingExplained} → ExplainsFinding sheet s t k a before after r → SmallFinding r
-finding-small {sheet} (refusedFinding a e) = reads-small a
+finding-small {sheet} (refused_finding a e) = reads-small a
 finding-small {sheet} (not-broken l o h g e) = (omega arith, omega arith)
-finding-small {sheet} (foundFinding {x = x} l o h b r e) = (omega (arith, lines-few _ sheet x o r), concept-small _ sheet o b)
+finding-small {sheet} (found_finding {x = x} l o h b r e) = (omega (arith, lines-few _ sheet x o r), concept-small _ sheet o b)

@@ -18,7 +18,7 @@ use Rattle.field.specs.Names.{counts_of}
 use Rattle.sheet.specs.own.Pass.{Counted, Judges, Next, NextRule, Opened, Passing, Paused, Totalled, Wholly, counted_in, found_rule}
 use Rattle.sheet.specs.Promise.{FindingsFrom, FindingsIn, Held, Leaves, Reads}
 use Rattle.sheet.specs.Promise.FindingsFrom.{none, more}
-use Rattle.sheet.specs.Promise.Reads.{wrong_size, refused as refusedRead, accepted as acceptedRead}
+use Rattle.sheet.specs.Promise.Reads.{wrong_size, refused as refused_read, accepted as accepted_read}
 use Rattle.sheet.specs.Said.{Outcome, Said, SheetRule, outcome}
 use Rattle.sheet.specs.Said.Outcome.{accepted, refused}
 use Rattle.sheet.specs.declared.Start.{Start}
@@ -111,7 +111,7 @@ whole-size sheet s numbers c b h z = record { reads = wrong_size z refl; tidy = 
 
 reads_as : {sheet s t : List ℕ} {x : Said} {fs : List Finding} {n : Counts} {m k : ℕ} → n ≡ counts_of x.names → m ≡ length x.rules → k ≡ length fs → length s ≡ size (width_of s) → outcome (width_of s) sheet ≡ accepted x → Held (width_of s) x t
     → FindingsIn (width_of s) x t fs → Reads sheet s t (reading.Accepted n m k)
-reads_as e f g l o h a = rw (e, f, g) (acceptedRead l o h a)
+reads_as e f g l o h a = rw (e, f, g) (accepted_read l o h a)
 
 -- an accepted sheet: its outcome, its store, its counts
 module _ {W : ℕ} {sheet s numbers t : List ℕ} {e : Ended} (w : Opens W sheet s numbers t e) (z : e.why ≡ 0) where
@@ -147,7 +147,7 @@ whole-refused {W} {sheet} {s} {t = t} {e = e} v long w z =
     let o : outcome W sheet ≡ refused e.line e.why w.said = w.ends ∙ rw (ne_eqb _ _ z) in
     let q = subst (λ (v : ℕ). outcome v sheet ≡ refused e.line e.why w.said) v o in
     record {
-      reads = refusedRead (subst (λ (u : ℕ). length s ≡ size u) v long) q (subst (λ (v : ℕ). Leaves v (refused e.line e.why w.said) s t) v (rw (ne_eqb _ _ z) at w.leaves));
+      reads = refused_read (subst (λ (u : ℕ). length s ≡ size u) v long) q (subst (λ (v : ℕ). Leaves v (refused e.line e.why w.said) s t) v (rw (ne_eqb _ _ z) at w.leaves));
       tidy = w.tidy;
       names = λ x l a. absurd (not-both (sym q ∙ a));
       start = λ x l a. absurd (not-both (sym q ∙ a));

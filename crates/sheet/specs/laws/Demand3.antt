@@ -16,7 +16,7 @@ use Rattle.sheet.specs.Demand3.{Rearranged, SameStatements, SheetDemand3, Sizes}
 use Rattle.line.specs.Fault.{begun, sheet_limit}
 use Rattle.field.specs.Names.{Names, counts_of}
 use Rattle.sheet.specs.Promise.{FindingsFrom, FindingsIn, Held, Leaves, Reads, Stopped}
-use Rattle.sheet.specs.Promise.Reads.{wrong_size, refused as refusedRead, accepted as acceptedRead}
+use Rattle.sheet.specs.Promise.Reads.{wrong_size, refused as refused_read, accepted as accepted_read}
 use Rattle.sheet.specs.Said.{Outcome, Said, StatedIn, marks_of, outcome}
 use Rattle.sheet.specs.Said.Outcome.{accepted, refused}
 use Rattle.sheet.specs.laws.Order.{findings-same, rearranged, same-marks}
@@ -26,8 +26,8 @@ use Rattle.sheet.specs.laws.Unique.{from-unique}
 -- what reading leaves is what the outcome leaves
 reads-leaves : {W : ℕ} {sheet s t : List ℕ} {r : Reading} {o : Outcome} → Sizes W s → outcome W sheet ≡ o → Reads sheet s t r → Leaves W o s t
 reads-leaves l e (wrong_size z q) = absurd (z (l.long ∙ sym (ap size l.width)))
-reads-leaves {W} {s = s} {t = t} l e (refusedRead {n = n} {k = k} {x = x} h i p) = subst (λ (o : Outcome). Leaves W o s t) (sym (rw l.width at i) ∙ e) (subst (λ (w : ℕ). Leaves w (refused n k x) s t) l.width p)
-reads-leaves {W} {s = s} {t = t} l e (acceptedRead h i p a) = subst (λ (o : Outcome). Leaves W o s t) (sym (rw l.width at i) ∙ e) (rw l.width at p)
+reads-leaves {W} {s = s} {t = t} l e (refused_read {n = n} {k = k} {x = x} h i p) = subst (λ (o : Outcome). Leaves W o s t) (sym (rw l.width at i) ∙ e) (subst (λ (w : ℕ). Leaves w (refused n k x) s t) l.width p)
+reads-leaves {W} {s = s} {t = t} l e (accepted_read h i p a) = subst (λ (o : Outcome). Leaves W o s t) (sym (rw l.width at i) ∙ e) (rw l.width at p)
 
 held_same : {W : ℕ} (x y : Said) {t v : List ℕ} → Words 64 t → Words 64 v → counts_of x.names ≡ counts_of y.names → SameStatements x y → Held W x t → Held W y v → t ≡ v
 held_same {W} x y {v = v} w u e same a b =
@@ -45,8 +45,8 @@ unchanged {W} {t = t} {x = x} l e b r = subst (λ (z : Bool). Stopped W z x t) b
 reads-found : {W : ℕ} {sheet s t : List ℕ} {x : Said} {r : Reading} → Sizes W s → outcome W sheet ≡ accepted x → Reads sheet s t r
     → (fs : List Finding) × Held W x t × FindingsIn W x t fs × (r ≡ reading.Accepted (counts_of x.names) (length x.rules) (length fs))
 reads-found l e (wrong_size z q) = absurd (z (l.long ∙ sym (ap size l.width)))
-reads-found l e (refusedRead h i p) = absurd (not-both (sym (rw l.width at i) ∙ e))
-reads-found {W} {t = t} l e (acceptedRead {x = y} {fs = fs} h i p a) =
+reads-found l e (refused_read h i p) = absurd (not-both (sym (rw l.width at i) ∙ e))
+reads-found {W} {t = t} l e (accepted_read {x = y} {fs = fs} h i p a) =
     subst (λ (z : Said). (gs : List Finding) × Held W z t × FindingsIn W z t gs × (reading.Accepted (counts_of y.names) (length y.rules) (length fs) ≡ reading.Accepted (counts_of z.names) (length z.rules) (length gs))) (ap said_of (sym (rw l.width at i) ∙ e))
     (fs, rw l.width at p, rw l.width at a, refl)
 

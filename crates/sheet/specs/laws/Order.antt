@@ -26,7 +26,7 @@ use Rattle.stated.specs.Stated.{statement_of}
 use Rattle.sheet.specs.Demand3.{Rearranged, SameSaid, Stating, rules_of}
 use Rattle.sheet.specs.Demand3.Stating.{empty, statement}
 use Rattle.sheet.specs.Promise.{FindingsFrom}
-use Rattle.sheet.specs.Promise.FindingsFrom.{none as noFindings, more as moreFindings}
+use Rattle.sheet.specs.Promise.FindingsFrom.{none as no_findings, more as more_findings}
 use Rattle.sheet.specs.Said.{Said, SheetRule, SheetStatement, line_said, marks_of, nothing, outcome, outcome_from, saying, statements_of}
 use Rattle.sheet.specs.Said.Outcome.{accepted}
 use Rattle.sheet.specs.laws.Pass.{accepted-lines, accepted-step, said_of}
@@ -294,10 +294,10 @@ rearranged W {sheet} {other} {x} r h e =
 
 -- the findings of rules do not ask for their lines
 pub findings-same : {C : Cell → Type 0} {n : Counts} {k : ℕ} (rs qs : List SheetRule) {fs : List Finding} → rules_of rs ≡ rules_of qs → FindingsFrom C n k rs fs → FindingsFrom C n k qs fs
-findings-same [] [] e noFindings = noFindings
+findings-same [] [] e no_findings = no_findings
 findings-same [] (q ∷ qs) e f = absurd (omega (arith, ap length e))
 findings-same (r ∷ rs) [] e f = absurd (omega (arith, ap length e))
-findings-same {C} {n} {k} (r ∷ rs) (q ∷ qs) e (moreFindings {fs = fs} a b) =
+findings-same {C} {n} {k} (r ∷ rs) (q ∷ qs) e (more_findings {fs = fs} a b) =
     let h : r.rule ≡ q.rule = cc in
     let t : rules_of rs ≡ rules_of qs = cc in
-    moreFindings (subst (λ (u : Rule). Findings C n k u fs) h a) (findings-same rs qs t b)
+    more_findings (subst (λ (u : Rule). Findings C n k u fs) h a) (findings-same rs qs t b)

@@ -14,8 +14,8 @@ use Rattle.field.specs.Names.{counts_of}
 use Rattle.store.specs.Layout.{width_of}
 use Rattle.sheet.specs.Promise.{FindingsFrom, FindingsIn, Held, Leaves, Prints, Reads, Stopped, findings_text, print_limit, refused_text, total_text}
 use Rattle.sheet.specs.Promise.FindingsFrom.{none, more}
-use Rattle.sheet.specs.Promise.Prints.{refused as refusedPrint, accepted as acceptedPrint}
-use Rattle.sheet.specs.Promise.Reads.{wrong_size, refused as refusedRead, accepted as acceptedRead}
+use Rattle.sheet.specs.Promise.Prints.{refused as refused_print, accepted as accepted_print}
+use Rattle.sheet.specs.Promise.Reads.{wrong_size, refused as refused_read, accepted as accepted_read}
 use Rattle.sheet.specs.Said.{Outcome, Said, SheetRule, marks_of}
 use Rattle.sheet.specs.Said.Outcome.{accepted, refused}
 use Rattle.sheet.specs.laws.Pass.{not-both, said_of}
@@ -52,27 +52,27 @@ found-unique {W} {x} {y} {t} {u} {fs} {gs} e v w p q a b =
 -- reading a sheet: one answer, and one store afterwards
 pub reads-unique : {sheet s t u : List ℕ} {r q : Reading} → Words 64 t → Words 64 u → Reads sheet s t r → Reads sheet s u q → (t ≡ u) × (r ≡ q)
 reads-unique v w (wrong_size z e) (wrong_size y f) = (e ∙ sym f, refl)
-reads-unique v w (wrong_size z e) (refusedRead l o p) = absurd (z l)
-reads-unique v w (wrong_size z e) (acceptedRead l o p a) = absurd (z l)
-reads-unique v w (refusedRead l o p) (wrong_size z e) = absurd (z l)
-reads-unique {s = s} {u = u} v w (refusedRead {n = n} {k = k} {x = x} l o p) (refusedRead {n = m} {k = j} {x = y} h i q) =
+reads-unique v w (wrong_size z e) (refused_read l o p) = absurd (z l)
+reads-unique v w (wrong_size z e) (accepted_read l o p a) = absurd (z l)
+reads-unique v w (refused_read l o p) (wrong_size z e) = absurd (z l)
+reads-unique {s = s} {u = u} v w (refused_read {n = n} {k = k} {x = x} l o p) (refused_read {n = m} {k = j} {x = y} h i q) =
     let same : refused n k x ≡ refused m j y = sym o ∙ i in
     (leaves-unique (width_of s) (refused n k x) s v w p (subst (λ (z : Outcome). Leaves (width_of s) z s u) (sym same) q), ap₂ reading.Refused (ap line_in same) (ap number_in same))
-reads-unique v w (refusedRead l o p) (acceptedRead h i q a) = absurd (not-both (sym o ∙ i))
-reads-unique v w (acceptedRead l o p a) (wrong_size z e) = absurd (z l)
-reads-unique v w (acceptedRead l o p a) (refusedRead h i q) = absurd (not-both (sym i ∙ o))
-reads-unique v w (acceptedRead {x = x} {fs = fs} l o p a) (acceptedRead {x = y} {fs = gs} h i q b) =
+reads-unique v w (refused_read l o p) (accepted_read h i q a) = absurd (not-both (sym o ∙ i))
+reads-unique v w (accepted_read l o p a) (wrong_size z e) = absurd (z l)
+reads-unique v w (accepted_read l o p a) (refused_read h i q) = absurd (not-both (sym i ∙ o))
+reads-unique v w (accepted_read {x = x} {fs = fs} l o p a) (accepted_read {x = y} {fs = gs} h i q b) =
     let same : y ≡ x = ap said_of (sym i ∙ o) in
     let z = found-unique same v w p q a b in
     (z.0, ap₂ {C = Reading} (λ (d : Said) (hs : List Finding). reading.Accepted (counts_of d.names) (length d.rules) (length hs)) (sym same) z.1)
 
 -- one text is printed
 pub prints-unique : {W : ℕ} {sheet text other : List ℕ} → Prints W sheet text → Prints W sheet other → text ≡ other
-prints-unique (refusedPrint {n = n} {k = k} {x = x} o) (refusedPrint {n = m} {k = j} {x = y} i) =
+prints-unique (refused_print {n = n} {k = k} {x = x} o) (refused_print {n = m} {k = j} {x = y} i) =
     let same : refused n k x ≡ refused m j y = sym o ∙ i in
     ap₂ refused_text (ap line_in same) (ap number_in same)
-prints-unique (refusedPrint o) (acceptedPrint i w q b) = absurd (not-both (sym o ∙ i))
-prints-unique (acceptedPrint o v p a) (refusedPrint i) = absurd (not-both (sym i ∙ o))
-prints-unique (acceptedPrint o v p a) (acceptedPrint i w q b) =
+prints-unique (refused_print o) (accepted_print i w q b) = absurd (not-both (sym o ∙ i))
+prints-unique (accepted_print o v p a) (refused_print i) = absurd (not-both (sym i ∙ o))
+prints-unique (accepted_print o v p a) (accepted_print i w q b) =
     let same = ap said_of (sym i ∙ o) in
     ap₂ {C = List ℕ} (λ (d : Said) (hs : List Finding). findings_text d (take print_limit hs) ++ total_text (length hs)) (sym same) (found-unique same v w p q a b).1

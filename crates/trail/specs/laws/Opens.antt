@@ -11,9 +11,9 @@ use Rattle.sheet.specs.declared.Whole.{Whole}
 use Rattle.field.specs.Names.{counts_of}
 use Rattle.sheet.specs.own.Pass.{Passing, Paused, Wholly}
 use Rattle.sheet.specs.Promise.{FindingsFrom, FindingsIn, Held, Reads}
-use Rattle.sheet.specs.Promise.Reads.{wrong_size, refused as refusedRead, accepted as acceptedRead}
+use Rattle.sheet.specs.Promise.Reads.{wrong_size, refused as refused_read, accepted as accepted_read}
 use Rattle.sheet.specs.Said.{Said, outcome}
-use Rattle.sheet.specs.Said.Outcome.{accepted as acceptedSheet}
+use Rattle.sheet.specs.Said.Outcome.{accepted as accepted_sheet}
 use Rattle.field.specs.own.Table.{Table, names_of, table_of}
 use Rattle.sheet.specs.laws.Pass.{passing-since}
 use Rattle.field.specs.laws.Table.{counts_of-names_of}
@@ -36,7 +36,7 @@ record AcceptedRead (sheet s t : List ℕ) (r : Reading) : Type 0 where
   said : Said
   list : List Finding
   long : length s ≡ size (width_of s)
-  ends : outcome (width_of s) sheet ≡ acceptedSheet said
+  ends : outcome (width_of s) sheet ≡ accepted_sheet said
   held : Held (width_of s) said t
   findings : FindingsIn (width_of s) said t list
   answer : r ≡ Accepted (counts_of said.names) (length said.rules) (length list)
@@ -44,8 +44,8 @@ record AcceptedRead (sheet s t : List ℕ) (r : Reading) : Type 0 where
 -- an answer that is no refusal is of that form
 reads-accepted : {sheet s t : List ℕ} {r : Reading} → is_refused r ≡ 0 → Reads sheet s t r → AcceptedRead sheet s t r
 reads-accepted e (wrong_size z q) = absurd (omega (arith, e))
-reads-accepted e (refusedRead l o p) = absurd (omega (arith, e))
-reads-accepted e (acceptedRead {x = x} {fs = fs} l o h a) = record { said = x; list = fs; long = l; ends = o; held = h; findings = a; answer = refl }
+reads-accepted e (refused_read l o p) = absurd (omega (arith, e))
+reads-accepted e (accepted_read {x = x} {fs = fs} l o h a) = record { said = x; list = fs; long = l; ends = o; held = h; findings = a; answer = refl }
 
 module _ {sheet s t numbers : List ℕ} {w : Whole} (z : Wholly sheet s t numbers w) where
   -- the names as they were read

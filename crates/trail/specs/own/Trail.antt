@@ -10,7 +10,7 @@ use Rattle.sheet.specs.own.Pass.{Passing, Paused}
 use Rattle.field.specs.Names.{counts_of}
 use Rattle.sheet.specs.Promise.{FindingsFrom, FindingsIn, Held, Reads}
 use Rattle.sheet.specs.Said.{Said, SheetRule, outcome}
-use Rattle.sheet.specs.Said.Outcome.{accepted as acceptedSheet}
+use Rattle.sheet.specs.Said.Outcome.{accepted as accepted_sheet}
 use Rattle.field.specs.own.Table.{Table, Tidy, table_of}
 use Rattle.trail.specs.declared.Opening.{Opening}
 use Rattle.trail.specs.declared.Trail.{Trail}
@@ -96,7 +96,7 @@ pub record Sought (sheet numbers : List ℕ) (n : Counts) (s : List ℕ) (past l
 -- how a reading with a list of `room` places begins: refused, with nothing to write; or at the first of all findings
 pub data Begins (sheet s t numbers : List ℕ) (room : ℕ) (p : Opening) : Type 0 where
   refused : {n k : ℕ} → Reads sheet s t (Refused n k) → p.answer ≡ Refused n k → p.write ≡ 0 → Begins sheet s t numbers room p
-  accepted : {x : Said} {fs : List Finding} → length s ≡ size (width_of s) → outcome (width_of s) sheet ≡ acceptedSheet x → Held (width_of s) x t → FindingsIn (width_of s) x t fs
+  accepted : {x : Said} {fs : List Finding} → length s ≡ size (width_of s) → outcome (width_of s) sheet ≡ accepted_sheet x → Held (width_of s) x t → FindingsIn (width_of s) x t fs
       → p.answer ≡ Accepted (counts_of x.names) (length x.rules) (length fs) → p.write ≡ min (length fs) room → Onward sheet numbers t p.trail fs → Begins sheet s t numbers room p
 
 -- the same with what the writer asks

@@ -9,14 +9,14 @@ use Rattle.field.specs.Names.{counts_of}
 use Rattle.sheet.specs.declared.Reading.{Reading}
 use Rattle.sheet.specs.Demand3.{Sizes}
 use Rattle.sheet.specs.Promise.{FindingsFrom, FindingsIn, Held, Prints, Reads}
-use Rattle.sheet.specs.Promise.Prints.{refused as refusedPrint, accepted as acceptedPrint}
-use Rattle.sheet.specs.Promise.Reads.{wrong_size, refused as refusedRead, accepted as acceptedRead}
+use Rattle.sheet.specs.Promise.Prints.{refused as refused_print, accepted as accepted_print}
+use Rattle.sheet.specs.Promise.Reads.{wrong_size, refused as refused_read, accepted as accepted_read}
 use Rattle.sheet.specs.Said.{Said, StatedIn, outcome}
 use Rattle.sheet.specs.Said.Outcome.{accepted}
 use Rattle.sheet.specs.laws.Meant.{sheet-meant}
 use Rattle.sheet.specs.laws.Pass.{not-both, said_of}
 use Rattle.listing.specs.Promise.{ReadsInto}
-use Rattle.listing.specs.Promise.ReadsInto.{refused as refusedList, accepted as acceptedList}
+use Rattle.listing.specs.Promise.ReadsInto.{refused as refused_list, accepted as accepted_list}
 use Rattle.report.specs.Promise.{PrintsIn}
 use Rattle.report.specs.Promise.PrintsIn.{wrong_size as wrong-store, printed}
 use Rattle.handover.specs.Room.{InRoom}
@@ -54,17 +54,17 @@ module _ (W : ℕ) (sheet : List ℕ) {x : Said} (o : outcome W sheet ≡ accept
 
   read : {s t : List ℕ} {r : Reading} → Sizes W s → Reads sheet s t r → r ≡ answer_of x all.0
   read l (wrong_size z e) = absurd (z (l.long ∙ sym (ap size l.width)))
-  read l (refusedRead h i p) = absurd (not-both (sym (rw l.width at i) ∙ o))
-  read l (acceptedRead h i p m) = let z = found (rw l.width at i) (rw l.width at p) (rw l.width at m) in ap₂ answer_of z.0 z.1
+  read l (refused_read h i p) = absurd (not-both (sym (rw l.width at i) ∙ o))
+  read l (accepted_read h i p m) = let z = found (rw l.width at i) (rw l.width at p) (rw l.width at m) in ap₂ answer_of z.0 z.1
 
   listed : {s t : List ℕ} {before after : List Finding} {r : Reading} → Sizes W s → ReadsInto sheet s t before after r → (r ≡ answer_of x all.0) × (after ≡ filled all.0 before)
-  listed l (refusedList (wrong_size z q) e) = absurd (z (l.long ∙ sym (ap size l.width)))
-  listed l (refusedList (refusedRead h i p) e) = absurd (not-both (sym (rw l.width at i) ∙ o))
-  listed {before = before} l (acceptedList h i p m e) = let z = found (rw l.width at i) (rw l.width at p) (rw l.width at m) in (ap₂ answer_of z.0 z.1, e ∙ ap (λ (fs : List Finding). filled fs before) z.1)
+  listed l (refused_list (wrong_size z q) e) = absurd (z (l.long ∙ sym (ap size l.width)))
+  listed l (refused_list (refused_read h i p) e) = absurd (not-both (sym (rw l.width at i) ∙ o))
+  listed {before = before} l (accepted_list h i p m e) = let z = found (rw l.width at i) (rw l.width at p) (rw l.width at m) in (ap₂ answer_of z.0 z.1, e ∙ ap (λ (fs : List Finding). filled fs before) z.1)
 
   prints : {text : List ℕ} → Prints W sheet text → text ≡ text_of x all.0
-  prints (refusedPrint i) = absurd (not-both (sym i ∙ o))
-  prints (acceptedPrint i w p m) = let z = found i p m in ap₂ text_of z.0 z.1
+  prints (refused_print i) = absurd (not-both (sym i ∙ o))
+  prints (accepted_print i w p m) = let z = found i p m in ap₂ text_of z.0 z.1
 
   prints-in : {s text : List ℕ} → Sizes W s → PrintsIn sheet s text → text ≡ text_of x all.0
   prints-in l (wrong-store z) = absurd (z (l.long ∙ sym (ap size l.width)))

@@ -9,7 +9,7 @@ use Rattle.sheet.specs.declared.Reading.{Reading}
 use Rattle.sheet.specs.declared.Reading.TheVariants as reading
 use Rattle.field.specs.Names.{counts_of}
 use Rattle.sheet.specs.Promise.{Held, Reads}
-use Rattle.sheet.specs.Promise.Reads.{wrong_size, refused as refusedRead, accepted as acceptedRead}
+use Rattle.sheet.specs.Promise.Reads.{wrong_size, refused as refused_read, accepted as accepted_read}
 use Rattle.sheet.specs.Said.{Said, SheetStatement, outcome}
 use Rattle.sheet.specs.Said.Outcome.{accepted}
 use Rattle.sheet.specs.laws.Pass.{not-both, said_of}
@@ -29,8 +29,8 @@ IsRefused (reading.Refused n k) = Unit {0}
 
 pub not-refused : {sheet s t : List ℕ} {r : Reading} (x : Said) → length s ≡ size (width_of s) → outcome (width_of s) sheet ≡ accepted x → Reads sheet s t r → IsRefused r → ⊥
 not-refused x l o (wrong_size z e) i = z l
-not-refused x l o (refusedRead m e h) i = not-both (sym e ∙ o)
-not-refused x l o (acceptedRead m e h f) i = i
+not-refused x l o (refused_read m e h) i = not-both (sym e ∙ o)
+not-refused x l o (accepted_read m e h f) i = i
 
 pub same_store : (W : ℕ) (sheet : List ℕ) {t u : List ℕ} (x y : Said) → Words 64 t → Words 64 u → outcome W sheet ≡ accepted x → outcome W sheet ≡ accepted y → Held W x t → Held W y u → t ≡ u
 same_store W sheet {u = u} x y wt wu o p h g = keeps-unique wt wu h (subst (λ (z : Said). Held W z u) (ap said_of (sym p ∙ o)) g)
