@@ -3,7 +3,7 @@
 
 Run once, at the top, after the kit's port.py. It goes over every .antt, .rt and .edit file of crates/ and every page of docs/ and README.md, and turns each name that
 specs/ or proofs/ define: `itemLimit` becomes `item_limit`, `orIf-gets` becomes `or_if-gets`. Functions of src/, exported names, strings and outputs keep theirs.
-A definition may have the name of a function of src/, as words of the library do. It ends with 1 where two other names would fall together.
+Aliases of imports are turned last, each in its file. A definition may have the name of a function of src/, as words of the library do. It ends with 1 where two other names would fall together.
 """
 
 import glob
@@ -55,6 +55,21 @@ def part_lemmas():
                     out.write(text)
 
 
+def respell_aliases(logic):
+    """Turns the names that an import gives by `as`, each in its own file; gives how many files changed."""
+    changed = 0
+    for f in logic + sorted(glob.glob("crates/*/src/**/*.rt", recursive=True)):
+        with open(f, encoding="utf-8") as source:
+            text = new = source.read()
+        for alias in sorted(set(re.findall(r"\bas ([a-z]+[A-Z][A-Za-z]*)\b", text))):
+            new = token(alias).sub(snake(alias), new)
+        if new != text:
+            changed += 1
+            with open(f, "w", encoding="utf-8") as out:
+                out.write(new)
+    return changed
+
+
 def main():
     part_lemmas()
     logic = sorted(glob.glob("crates/*/specs/**/*.antt", recursive=True) + glob.glob("crates/*/proofs/**/*.antt", recursive=True))
@@ -95,7 +110,7 @@ def main():
             count += n
             with open(f, "w", encoding="utf-8") as out:
                 out.write(new)
-    print(f"spell: {len(turned)} names, {count} places")
+    print(f"spell: {len(turned)} names, {count} places, {respell_aliases(logic)} files with aliases")
     return 0
 
 
