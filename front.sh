@@ -43,13 +43,13 @@ progress() {
         /^rt: |: error/ { print; fflush() }' >&2 || true
 }
 
-# Has rt prove and build the program, for any x86-64 processor; where nothing has changed since, that takes a moment. rt also runs the program once, here with nothing to read and no words. One call builds at a time.
+# Has rt prove and build the program; where nothing has changed since, that takes a moment. rt also runs the program once, here with nothing to read and no words. One call builds at a time.
 build() {
     command -v rt >/dev/null || fail "rt is missing: install the Rattle kit and put rt on the PATH (README.md, 'What it needs')"
     [[ -x $program ]] || echo "$name: building the program: everything is proved first, which takes some minutes" >&2
     exec {lock}<"$root/crates.txt"
     ! command -v flock >/dev/null || flock "$lock"
-    (cd "$root/crates/$crate" && rt run --cpu x86-64) </dev/null 2>&1 >/dev/null | progress || fail "the program was not built ('rt run' in crates/$crate says more)"
+    (cd "$root/crates/$crate" && rt run) </dev/null 2>&1 >/dev/null | progress || fail "the program was not built ('rt run' in crates/$crate says more)"
     exec {lock}<&-
     [[ -x $program ]] || fail "rt has left no program: remove the folder crates/$crate/out and try again"
 }

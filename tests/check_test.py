@@ -103,7 +103,7 @@ def test_building(place):
     assert first.out == second.out == FOUND
     assert "building the program" in first.err and "building" not in second.err, (first, second)
     for ended in (first, second):
-        assert "rt: run --cpu x86-64 proved (7 s)" in ended.err and "rt: proving checker" in ended.err, ended
+        assert "rt: run proved (7 s)" in ended.err and "rt: proving checker" in ended.err, ended
         assert "unchanged" not in ended.err and "fn " not in ended.err and "--jobs" not in ended.err, ended
 
 
