@@ -4,27 +4,6 @@
 ghost use Rattle.std.specs.Prelude.{◌≤◌, length};
 
 use report::Report;
-use std::io::Read;
-
-// Reads until the room is full, the input ends or a read fails; gives how many bytes were put at the start of the room.
-fn read_full(input: &mut impl Read, room: &mut [u8]) -> usize
-    ensures { result ≤ length room.new }
-{
-    let mut done = 0;
-    while done < room.len() {
-        match input.read(&mut room[done..]) {
-            Ok(0) | Err(_) => break,
-            Ok(n) => done += n,
-        }
-    }
-    done
-}
-
-// Whether the input has really ended, and not only failed.
-fn ended(input: &mut impl Read) -> bool {
-    let mut one = [0u8; 1];
-    matches!(input.read(&mut one), Ok(0))
-}
 
 // Prints the text for the first n bytes of what was read.
 fn print(rt: &(impl Print + Eprint), sheet: &[u8], n: usize)
@@ -41,9 +20,9 @@ fn print(rt: &(impl Print + Eprint), sheet: &[u8], n: usize)
 fn main(rt: HostRuntime) {
     let mut sheet = [0u8; 32769];
     let mut input = rt.stdin();
-    let n = read_full(&mut input, &mut sheet);
+    let n = intake::read_full(&mut input, &mut sheet);
     if n < 32769 {
-        if !ended(&mut input) {
+        if !intake::ended(&mut input) {
             let _ = rt.eprint("checker: the sheet could not be read to its end\n");
             return;
         }

@@ -10,7 +10,6 @@ use rule::{Finding, Rule, Second};
 use sheet::Reading;
 use spelled::Spelled;
 use std::io;
-use std::io::Read;
 use store::{Counts, Item, Store};
 
 // How many records a list has.
@@ -288,23 +287,9 @@ fn print_all(rt: &impl Print, input: &[u8]) -> io::Result<()> {
     print_large_short(rt, input)
 }
 
-// Reads until the room is full, the input ends or a read fails; gives how many bytes were put at the start of the room.
-fn read_full(input: &mut impl Read, room: &mut [u8]) -> usize
-    ensures { result ≤ length room.new }
-{
-    let mut done = 0;
-    while done < room.len() {
-        match input.read(&mut room[done..]) {
-            Ok(0) | Err(_) => break,
-            Ok(n) => done += n,
-        }
-    }
-    done
-}
-
 // Reads the input, and prints.
 fn main(rt: HostRuntime) -> io::Result<()> {
     let mut input = [0u8; INPUT];
-    let n = read_full(&mut rt.stdin(), &mut input);
+    let n = intake::read_full(&mut rt.stdin(), &mut input);
     print_all(&rt, text::part::part(&input, 0, n))
 }

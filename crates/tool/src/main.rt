@@ -115,32 +115,12 @@ fn answer_all(rt: &(impl Env + Print + Eprint), sheet: &[u8]) {
     }
 }
 
-// Reads until the room is full, the input ends or a read fails; gives how many bytes were put at the start of the room.
-fn read_full(input: &mut impl Read, room: &mut [u8]) -> usize
-    ensures { result ≤ length room.new }
-{
-    let mut done = 0;
-    while done < room.len() {
-        match input.read(&mut room[done..]) {
-            Ok(0) | Err(_) => break,
-            Ok(n) => done += n,
-        }
-    }
-    done
-}
-
-// Whether the input has really ended, and not only failed.
-fn ended(input: &mut impl Read) -> bool {
-    let mut one = [0u8; 1];
-    matches!(input.read(&mut one), Ok(0))
-}
-
 // Reads one byte more than a sheet may have, so that a longer one is known, and checks it, or answers.
 fn read_sheet(rt: &(impl Env + Print + Eprint), input: &mut impl Read, check: bool) {
     let mut sheet = [0u8; 32769];
-    let n = read_full(input, &mut sheet);
+    let n = intake::read_full(input, &mut sheet);
     if n < 32769 {
-        if !ended(input) {
+        if !intake::ended(input) {
             complain(rt, "tool: the sheet could not be read to its end\n");
             return;
         }

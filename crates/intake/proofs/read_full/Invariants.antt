@@ -1,6 +1,6 @@
--- `tool::read_full` meets its contract. Assumes nothing.
+-- `intake::read_full` meets its contract. Assumes nothing.
 use Rattle.std.proofs.Common.{length, ◌-◌, ◌≤◌, ◌≡◌}
-use Rattle.tool.proofs.read_full.Given as goal
+use Rattle.intake.proofs.read_full.Given as goal
 
 abbrev pub invariant-loop-done : goal.invariant-loop-done
 invariant-loop-done g l = (l.done ≤ length l.room) × (length l.room ≡ length l.initial.room)
