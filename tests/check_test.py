@@ -23,20 +23,7 @@ TOOLS = ("awk", "bash", "cat", "chmod", "dirname", "flock", "grep", "head", "mkd
 EVERY_BYTE = bytes(range(256)) + b"\n\n"
 FOUND = b"finding\t12\tFB-13\ntotal\t1\n"
 
-# The stand-ins say and leave what the files beside them hold.
-RT = """#!/usr/bin/env bash
-cat >/dev/null
-echo "total 0, of the run with nothing to read"
-{
-    echo "rt: chose --jobs 2 for ${PWD##*/}"
-    echo "rt: $* proved (7 s)"
-    echo "rt: logic proved (unchanged since it was last proved)"
-    echo "fn logic::any: proved"
-} >&2
-[ ! -e ../../broken ] || exit 1
-[ ! -e ../../lost ] || exit 0
-mkdir -p out && cat ../../program >out/checker && chmod +x out/checker
-"""
+# The stand-in for the program says what the file `canned` holds, and keeps what it reads.
 PROGRAM = """#!/usr/bin/env bash
 here=$(dirname "$0")/../../..
 cat >"$here/seen"
@@ -60,7 +47,7 @@ class Place:
         for tool in filter(shutil.which, TOOLS):
             (self.bin / tool).symlink_to(shutil.which(tool))
         (self.bin / "env").symlink_to(shutil.which("env"))
-        (self.bin / "rt").write_text(RT)
+        (self.bin / "rt").write_text(harness.RT)
         (self.bin / "rt").chmod(0o755)
         (self.root / "program").write_text(PROGRAM)
         (self.root / "canned").write_bytes(FOUND)

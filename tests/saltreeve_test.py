@@ -26,7 +26,7 @@ import size_sheets
 import size_why
 import why_cases
 
-TOOLS = ("awk", "bash", "cat", "chmod", "cp", "dirname", "env", "flock", "grep", "mkdir", "python3", "readlink",
+TOOLS = ("awk", "bash", "cat", "chmod", "dirname", "env", "flock", "grep", "mkdir", "python3", "readlink",
          "realpath", "tr")
 COPIED = ("saltreeve", "check", "front.sh", "crates.txt", "docs/SHEETS.md")
 MOST_QUESTIONS = 6  # drawn for a sheet
@@ -35,19 +35,7 @@ FOUND = b"finding\t12\tFB-13\nline\t9\tin\tFB-13\tBlade\nabsent\tin\tFB-13\tHub\
 REASON = b"line\t9\tin\tFB-13\tBlade\ntotal\t1\n"
 QUESTION = ("in", "FB-13", "Blade")
 
-# The stand-ins say and leave what the files beside them hold; the program is named after the crate that rt is to check.
-RT = """#!/usr/bin/env bash
-cat >/dev/null
-echo "total 0, of the run with nothing to read"
-{
-    echo "rt: $* proved (7 s)"
-    echo "rt: logic proved (unchanged since it was last proved)"
-    echo "fn logic::any: proved"
-} >&2
-[ ! -e ../../broken ] || exit 1
-[ ! -e ../../lost ] || exit 0
-mkdir -p out && cp ../../program "out/${PWD##*/}" && chmod +x "out/${PWD##*/}"
-"""
+# The stand-in for the program says what the file `canned` holds, and keeps its words, its folder and what it reads.
 PROGRAM = """#!/usr/bin/env bash
 here=$(dirname "$0")/../../..
 for word in "$@"; do printf '%s\\0' "$word"; done >"$here/words"
@@ -75,7 +63,7 @@ class Place:
             self.put(self.root / "saltreeve", command.encode())
         for tool in filter(shutil.which, TOOLS):
             (self.bin / tool).symlink_to(sys.executable if tool == "python3" else shutil.which(tool))
-        self.put(self.bin / "rt", RT.encode())
+        self.put(self.bin / "rt", harness.RT.encode())
         self.put(self.root / "program", PROGRAM.encode() if program is None else Path(program).read_bytes())
         (self.root / "canned").write_bytes(FOUND)
         (self.temporary / "my sheet").write_bytes(EVERY_BYTE)
