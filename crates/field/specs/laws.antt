@@ -8,3 +8,4 @@ pub mod Entry
 pub mod Table
 pub mod Declared
 pub mod Looked
+pub mod Proposition

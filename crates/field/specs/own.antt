@@ -2,3 +2,4 @@
 pub mod Code
 pub mod Table
 pub mod Line
+pub mod Known

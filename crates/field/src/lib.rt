@@ -2,6 +2,7 @@
 #![tactic(auto)]
 
 mod code;
+pub mod known;
 pub mod names;
 pub mod tables;
 pub mod words;

@@ -3,6 +3,7 @@ pub mod Least
 pub mod Reflexive
 pub mod Turn
 pub mod Parts
+pub mod Proposition
 pub mod Cells
 pub mod Keeps
 pub mod Laid

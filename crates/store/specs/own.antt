@@ -2,3 +2,4 @@
 pub mod Laid
 pub mod Look
 pub mod RoleWord
+pub mod View

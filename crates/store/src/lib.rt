@@ -4,6 +4,7 @@
 pub mod look;
 pub mod role_word;
 pub mod size;
+pub mod view;
 
 // The number of an item.
 #[derive(Clone, Copy)]

@@ -1,6 +1,7 @@
 -- Laws of how many things there are of a kind. Assumes nothing.
 use Rattle.std.specs.Prelude.{◌≡◌, refl, ◌⊎◌, List, [], ◌∷◌, ℕ, zero, suc, ◌+◌, ◌-◌, ◌≤◌, ◌<◌, length}
-use Rattle.std.proofs.Common.{sym, ap, ◌∙◌, subst, inl, inr, ⊎_elim, arith}
+use Rattle.std.proofs.Common.{sym, ap, ap₂, ◌∙◌, subst, inl, inr, ⊎_elim, arith}
+use mathlib.Core.HLevel.{¬_prop}
 use mathlib.Core.Logic.Dec
 use Rattle.std.proofs.Math.Decide.{ℕ_discrete}
 use Rattle.logic.specs.Number.{One, Distinct, Number}
@@ -176,3 +177,8 @@ number-map f inj a =
     number_at a.count
     (number-iff (λ y p. (p.0, a.sound p.0 p.1, p.2)) (λ y p. (p.0, a.whole p.0 p.1, p.2))
     (map-list f a.distinct (λ x z o q. inj x z (a.sound x o) (a.sound z q))))
+
+-- that no two of a list are equal is one fact: it has one proof at most
+pub distinct-prop : {A : Type 0} (xs : List A) → IsProp (Distinct xs)
+distinct-prop [] none none = refl
+distinct-prop (x ∷ xs) (more p d) (more q e) = ap₂ more (¬_prop p q) (distinct-prop xs d e)
