@@ -4,15 +4,15 @@ use Rattle.store.specs.declared.Counts.{Counts}
 use Rattle.store.specs.Cell.{Cell}
 use Rattle.store.specs.Cell.Cell.{Same, Under, RoleUnder, In, Link}
 use Rattle.store.specs.Layout.{role_limit, width_of}
-use Rattle.closure.specs.declared.Answer.{Answer}
-use Rattle.closure.specs.declared.Answer.TheVariants.{Cells, Refused}
+use Rattle.closure.specs.Refusal.{Answer}
+use Rattle.std.specs.Prelude.{Err, Ok}
+use Rattle.refusal.specs.Signed.{signed_of}
 use Rattle.closure.specs.Refusal.{number}
 use Rattle.closure.specs.Promise.{Adds}
 
 -- an answer as a signed number
 abbrev pub code_of : Answer → ℤ
-code_of (Cells m) = pos m
-code_of (Refused k) = neg_ℤ (pos (number k))
+code_of = signed_of number
 
 -- the cell of a kind, by its numbers; any other kind is no cell: a link of a role that no sheet can have
 abbrev pub cell_of_kind : ℕ → ℕ → ℕ → ℕ → Cell

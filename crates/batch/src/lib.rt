@@ -10,7 +10,7 @@ ghost use Rattle.store.specs.own.Laid.{layout_of};
 ghost use Rattle.batch.specs.Promise.{AddsAll, cell_numbered};
 ghost use Rattle.batch.specs.own.Turn.{Answered, Filled, Turn};
 
-use closure::{Answer, Refusal};
+use closure::Refusal;
 use store::{Counts, Layout, Statement};
 
 // Statement i of the list.
@@ -31,10 +31,7 @@ fn turn(words: &mut [u64], at: Layout, counts: Counts, s: Statement) -> i64
     requires { (at ≡ layout_of (width_of words.old)) × ClosedStore (width_of words.old) counts words.old }
     ensures { Turn counts (cell_of s) words.old words.new result }
 {
-    if !store::size::within(counts, s) {
-        return number::code(Answer::Refused(Refusal::Number));
-    }
-    number::code(Answer::Cells(closure::entry::include(words, at, counts, s)))
+    refusal::signed(closure::entry::take(words, at, counts, s))
 }
 
 // Adds the first `count` statements to a closed store, one after the other.
@@ -75,7 +72,7 @@ pub fn add_all(words: &mut [u64], counts: Counts, statements: &[u64], answers: &
 {
     let count = row::number::lesser(statements.len() / 4, answers.len());
     if !store::size::sized(words, counts) {
-        fill(answers, count, number::code(Answer::Refused(Refusal::Size)));
+        fill(answers, count, refusal::signed(Err(Refusal::Size)));
         return count;
     }
     let at = store::size::layout_of(words);
@@ -83,7 +80,7 @@ pub fn add_all(words: &mut [u64], counts: Counts, statements: &[u64], answers: &
         fill(
             answers,
             count,
-            number::code(Answer::Refused(Refusal::NotClosed)),
+            refusal::signed(Err(Refusal::NotClosed)),
         );
         return count;
     }

@@ -1,25 +1,8 @@
 ghost use Rattle.std.specs.Prelude.{◌≡◌};
 ghost use Rattle.store.specs.Cell.{cell_of};
-ghost use Rattle.batch.specs.Codes.{cell_of_kind, code_of};
-ghost use Rattle.batch.specs.own.Small.{Small};
+ghost use Rattle.batch.specs.Codes.{cell_of_kind};
 
-use closure::{Answer, Refusal};
 use store::{Concept, Item, Role, Statement, Store};
-
-// An answer as a signed number: the cells, or minus the number of refusal.
-pub fn code(a: Answer) -> i64
-    requires { Small a }
-    ensures { result ≡ code_of a }
-{
-    match a {
-        Answer::Cells(m) => m as i64,
-        Answer::Refused(k) => match k {
-            Refusal::Size => -1,
-            Refusal::NotClosed => -2,
-            Refusal::Number => -4,
-        },
-    }
-}
 
 // The cell of a kind, as the statement that states it.
 pub fn cell(kind: usize, a: usize, b: usize, c: usize) -> Statement

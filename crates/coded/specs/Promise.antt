@@ -4,19 +4,19 @@ use Rattle.logic.specs.Lowest.{Lowest}
 use Rattle.store.specs.declared.Counts.{Counts}
 use Rattle.store.specs.Layout.{Holds, large, width_of}
 use Rattle.rule.specs.declared.Finding.{Finding}
-use Rattle.rule.specs.declared.Second.{Second}
-use Rattle.rule.specs.declared.Second.TheVariants as second
+use Rattle.rule.specs.Second.{Second}
+use Rattle.std.specs.Prelude.{None, Some}
 use Rattle.rule.specs.Findings.{Findings}
 use Rattle.judge.specs.Promise.{Judged, RuleFault}
-use Rattle.query.specs.declared.Outcome.{Outcome}
-use Rattle.query.specs.declared.Outcome.TheVariants.{Compiled, Refused}
+use Rattle.query.specs.Outcome.{Outcome}
+use Rattle.std.specs.Prelude.{Err}
 use Rattle.query.specs.Promise.{number, Compiles}
 use Rattle.spelled.specs.Rules.{rule_of}
 
 -- the word of a second item; of none it is the largest word there is
 abbrev pub second_word : Second → ℕ
-second_word second.None = 2 ^ 64 - 1
-second_word (second.Item i) = i.0
+second_word None = 2 ^ 64 - 1
+second_word (Some i) = i.0
 
 -- the words of findings: two each
 unfoldable pub pair_words : List Finding → List ℕ
@@ -33,8 +33,8 @@ pub data ListCode (n : Counts) (s g before after : List ℕ) : ℤ → Type 0 wh
 
 -- the answer of compiling: four times the items and the answer variables, or minus the number of refusal
 abbrev pub outcome_code : Outcome → ℤ
-outcome_code (Compiled items answers) = pos (4 * items + answers)
-outcome_code (Refused k) = neg_ℤ (pos (number k))
+outcome_code (Ok c) = pos (4 * c.items + c.answers)
+outcome_code (Err k) = neg_ℤ (pos (number k))
 
 -- The query of the rule that the words g say: the room `before` is left as `after`.
 pub record CompileCode (n : Counts) (g before after : List ℕ) (r : ℤ) : Type 0 where

@@ -5,18 +5,17 @@ ghost use Rattle.coded.specs.Promise.{ListCode, second_word};
 ghost use Rattle.coded.specs.own.Writing.{SmallTotal, Written, total_code};
 
 use crate::Coded;
-use judge::{RuleRefusal, Search, Total};
-use rule::Second;
-use store::Counts;
+use judge::{RuleRefusal, Search};
+use store::{Counts, Item};
 
 // The number of findings, or minus the number of refusal.
-fn code(t: Total) -> i64
+fn code(t: Result<u64, RuleRefusal>) -> i64
     requires { SmallTotal t }
     ensures { result ≡ total_code t }
 {
     match t {
-        Total::Count(m) => m as i64,
-        Total::Refused(k) => match k {
+        Ok(m) => m as i64,
+        Err(k) => match k {
             RuleRefusal::Size => -1,
             RuleRefusal::NotClosed => -2,
             RuleRefusal::Malformed => -3,
@@ -26,12 +25,12 @@ fn code(t: Total) -> i64
 }
 
 // The word of a second item.
-fn second(s: Second) -> u64
+fn second(s: Option<Item>) -> u64
     ensures { result ≡ second_word s }
 {
     match s {
-        Second::None => Coded::NO_ITEM,
-        Second::Item(i) => i.0 as u64,
+        None => Coded::NO_ITEM,
+        Some(i) => i.0 as u64,
     }
 }
 

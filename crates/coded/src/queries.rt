@@ -3,17 +3,17 @@ ghost use Rattle.std.specs.Prelude.{◌≡◌};
 ghost use Rattle.coded.specs.Promise.{CompileCode, outcome_code};
 ghost use Rattle.coded.specs.own.Writing.{SmallOutcome};
 
-use query::{Outcome, Query, QueryRefusal};
+use query::{Compiled, Query, QueryRefusal};
 use store::Counts;
 
 // The answer of compiling as a number.
-fn code(r: Outcome) -> i64
+fn code(r: Result<Compiled, QueryRefusal>) -> i64
     requires { SmallOutcome r }
     ensures { result ≡ outcome_code r }
 {
     match r {
-        Outcome::Compiled(n, k) => (4 * n + k) as i64,
-        Outcome::Refused(k) => match k {
+        Ok(c) => (4 * c.items + c.answers) as i64,
+        Err(k) => match k {
             QueryRefusal::Size => -1,
             QueryRefusal::Malformed => -3,
             QueryRefusal::Number => -4,

@@ -2,13 +2,13 @@
 #![tactic(auto)]
 
 mod carry;
-pub mod number;
 
 ghost use Rattle.std.specs.Prelude.{◌≡◌, ◌≤◌};
 ghost use Rattle.logic.specs.own.Decides.{Decides};
 ghost use Rattle.convert.specs.Promise.{Converts, NoPlace, Pair, other_width};
 ghost use Rattle.store.specs.own.Laid.{widest};
 
+use refusal::Numbered;
 use store::{Counts, Store};
 
 // Why a conversion is refused.
@@ -22,11 +22,18 @@ pub enum Refusal {
     TooMany,
 }
 
-// What a conversion gives: the number of cells, or a refusal.
-#[derive(Clone, Copy)]
-pub enum Answer {
-    Cells(u64),
-    Refused(Refusal),
+impl Numbered for Refusal {
+    ghost use Rattle.convert.specs.Promise.{number};
+
+    ghost number = { number };
+
+    fn number(self) -> u8 {
+        match self {
+            Refusal::Size => 1,
+            Refusal::NotClosed => 2,
+            Refusal::TooMany => 26,
+        }
+    }
 }
 
 // The words of an item row in the store of the other size.
@@ -61,19 +68,19 @@ fn no_place(width: usize, counts: Counts) -> bool
 }
 
 // Moves each cell of the closed store `source` to its place in the store of the other size, and says how many there are.
-pub fn convert(source: &[u64], counts: Counts, target: &mut [u64]) -> Answer
+pub fn convert(source: &[u64], counts: Counts, target: &mut [u64]) -> Result<u64, Refusal>
     ensures { Converts counts source.now target.old target.new result }
 {
     if !pair(source, counts, target) {
-        return Answer::Refused(Refusal::Size);
+        return Err(Refusal::Size);
     }
     let at = store::size::layout_of(source);
     if !closed::is_closed(source, at, counts) {
-        return Answer::Refused(Refusal::NotClosed);
+        return Err(Refusal::NotClosed);
     }
     if no_place(store::size::width(target), counts) {
-        return Answer::Refused(Refusal::TooMany);
+        return Err(Refusal::TooMany);
     }
     carry::carry(source, counts, target);
-    Answer::Cells(row::bit::count(source))
+    Ok(row::bit::count(source))
 }

@@ -3,8 +3,8 @@ use Rattle.std.specs.Prelude.{◌≡◌, true, false, List, [], ◌∷◌, ℕ, 
 use Rattle.row.specs.Bit.{Words}
 use Rattle.store.specs.declared.Counts.{Counts}
 use Rattle.store.specs.declared.Concept.{Concept}
-use Rattle.closure.specs.declared.Answer.{Answer}
-use Rattle.closure.specs.declared.Answer.TheVariants.{Cells}
+use Rattle.closure.specs.Refusal.{Answer}
+use Rattle.std.specs.Prelude.{Ok}
 use Rattle.store.specs.declared.Statement.{Statement}
 use Rattle.store.specs.declared.Statement.TheVariants as statement
 use Rattle.store.specs.Cell.{Nothing, DeclaredItem}
@@ -21,8 +21,9 @@ use Rattle.rule.specs.declared.Rule.{Rule}
 use Rattle.rule.specs.Form.{node_at}
 use Rattle.rule.specs.Expr.Expr.{name, many}
 use Rattle.rule.specs.Findings.{Findings}
-use Rattle.query.specs.declared.Outcome.{Outcome}
-use Rattle.query.specs.declared.Outcome.TheVariants.{Compiled, Refused}
+use Rattle.query.specs.Outcome.{Outcome}
+use Rattle.query.specs.Outcome.{compiled_as}
+use Rattle.std.specs.Prelude.{Err}
 use Rattle.query.specs.declared.QueryRefusal.TheVariants.{Room}
 use Rattle.body.specs.Body.{size}
 use Rattle.body.specs.Translation.{of_expr}
@@ -77,9 +78,9 @@ pub record Examples (W : ℕ) : Type 0 where
   pub inverse-twice : {n : Counts} {s : List ℕ} {r q t : ℕ} → ClosedStore W n s → Holds W n s (RoleUnder r true q) → Holds W n s (RoleUnder q true t)
       → Holds W n s (RoleUnder r false t)
   -- `same a a` on a fresh store: 0 new cells
-  pub same-itself : {n : Counts} {s t : List ℕ} {a : ℕ} {r : Answer} → DeclaredItem n a → Words 64 s → Words 64 t → Keeps W n Nothing s → Adds W n (Same a a) s t r → r ≡ Cells 0
+  pub same-itself : {n : Counts} {s t : List ℕ} {a : ℕ} {r : Answer} → DeclaredItem n a → Words 64 s → Words 64 t → Keeps W n Nothing s → Adds W n (Same a a) s t r → r ≡ Ok 0
   -- `same a b`, two items, nothing else: 2
-  pub same-two : {s t : List ℕ} {r : Answer} → Keeps W two_items Nothing s → Adds W two_items (Same 0 1) s t r → r ≡ Cells 2
+  pub same-two : {s t : List ℕ} {r : Answer} → Keeps W two_items Nothing s → Adds W two_items (Same 0 1) s t r → r ≡ Ok 2
   -- no items, `ref`: 0 findings
   pub ref-none : {n : Counts} {s : List ℕ} {k : ℕ} {u : Rule} {fs : List Finding} → n.items ≡ 0 → IsRef u → Findings (Holds W n s) n k u fs → length fs ≡ 0
   -- one item, no links, `ref`: 1
@@ -92,9 +93,9 @@ pub record Examples (W : ℕ) : Type 0 where
   pub one-article : {s : List ℕ} {k : ℕ} {u : Rule} {fs : List Finding} → Keeps W three_items (Stated (same_links ∷ two_links)) s → IsAtLeast 2 u
       → Findings (Holds W three_items s) three_items k u fs → length fs ≡ 1
   -- `sub Blade some fits Hub`: 5 query items and 1 answer variable, in a room of 20 words or more
-  pub five-items : {n : Counts} {u : Rule} {before after : List ℕ} {r : Outcome} → BladesFit n u → 20 ≤ length before → Compiles large n u before after r → r ≡ Compiled 5 1
+  pub five-items : {n : Counts} {u : Rule} {before after : List ℕ} {r : Outcome} → BladesFit n u → 20 ≤ length before → Compiles large n u before after r → r ≡ compiled_as 5 1
   -- and in a shorter one it is refused by 6
-  pub five-items-room : {n : Counts} {u : Rule} {before after : List ℕ} {r : Outcome} → BladesFit n u → length before < 20 → Compiles large n u before after r → r ≡ Refused Room
+  pub five-items-room : {n : Counts} {u : Rule} {before after : List ℕ} {r : Outcome} → BladesFit n u → length before < 20 → Compiles large n u before after r → r ≡ Err Room
   -- at least 2 R D: 7; 3: 15, for each role, each concept, each term and whatever the next variable
   pub seven-items : (r : RoleUse) (d : Concept) (t v : ℕ) → size (of_expr (many 2 r (name d)) t v) ≡ 7
   pub fifteen-items : (r : RoleUse) (d : Concept) (t v : ℕ) → size (of_expr (many 3 r (name d)) t v) ≡ 15

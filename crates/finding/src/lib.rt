@@ -13,17 +13,15 @@ ghost use Rattle.finding.specs.own.Sides.{Breaking, NodeIs, RuleFound, SidesAre}
 
 use field::Table;
 use rule::{Head, Node, Rule};
-use sheet::RuleLine;
+use sheet::{Refused, RuleLine};
 use store::{Concept, Counts, Item, Layout, Statement, Store};
 use why::Paths;
 
-// What asking why an item is a finding gives.
+// Why an item is a finding: how many lines there are in all, and the concept in which the item is not.
 #[derive(Clone, Copy)]
-pub enum FindingExplained {
-    // How many lines there are in all, and the concept in which the item is not.
-    Lines(usize, Concept),
-    // The line and the number of refusal; line 0 is the whole sheet, and the line of 25.
-    Refused(usize, usize),
+pub struct Explained {
+    pub lines: usize,
+    pub absent: Concept,
 }
 
 // The concept of a node, if it is a name.
@@ -180,27 +178,27 @@ fn answer(
     k: usize,
     a: Item,
     room: &mut [u32],
-) -> FindingExplained
+) -> Result<Explained, Refused>
     requires { (number_count (width_of words.old) ≤ length names.old) × Lent (width_of words.old) table.old }
     ensures { ExplainsFinding sheet.now words.old words.new k a.0 room.old room.new result }
 {
     if !store::size::long(words) {
-        return FindingExplained::Refused(0, 1);
+        return Err(Refused { line: 0, why: 1 });
     }
     let at = store::size::layout_of(words);
     let e = sheet::sheets::fill(sheet, words, at, names);
     if e.why != 0 {
-        return FindingExplained::Refused(e.line, e.why);
+        return Err(Refused { line: e.line, why: e.why });
     }
     let kept = e.kept;
     let counts = kept.counts;
     let s = broken(sheet, names, counts, words, at, k, a.0);
     if !s.named {
-        return FindingExplained::Refused(0, 25);
+        return Err(Refused { line: 0, why: 25 });
     }
     let left = Statement::In(a, Concept(s.left));
     let total = why::list(sheet, names, counts, left, table, at.width, room);
-    FindingExplained::Lines(total, Concept(s.right))
+    Ok(Explained { lines: total, absent: Concept(s.right) })
 }
 
 // The same with a lent store that may be the larger one. A list of no place is answered as one of one place: a function that calls itself keeps its words off its caller's stack.
@@ -210,7 +208,7 @@ fn explain_large(
     k: usize,
     a: Item,
     room: &mut [u32],
-) -> FindingExplained
+) -> Result<Explained, Refused>
     ensures { ExplainsFinding sheet.now words.old words.new k a.0 room.old room.new result }
 {
     if room.len() == 0 {
@@ -230,7 +228,7 @@ pub fn explain(
     k: usize,
     a: Item,
     room: &mut [u32],
-) -> FindingExplained
+) -> Result<Explained, Refused>
     ensures { ExplainsFinding sheet.now words.old words.new k a.0 room.old room.new result }
 {
     if words.len() == Store::LARGE_WORDS {

@@ -5,9 +5,9 @@ use Rattle.store.specs.declared.Counts.{Counts}
 use Rattle.store.specs.Layout.{Holds}
 use Rattle.rule.specs.declared.Finding.{Finding}
 use Rattle.rule.specs.declared.Rule.{Rule}
-use Rattle.rule.specs.declared.Second.{Second}
-use Rattle.judge.specs.declared.Total.{Total}
-use Rattle.judge.specs.declared.Total.TheVariants.{Count}
+use Rattle.rule.specs.Second.{Second}
+use Rattle.judge.specs.Total.{Total}
+use Rattle.std.specs.Prelude.{Ok}
 use Rattle.rule.specs.Breaks.{Breaks}
 use Rattle.rule.specs.Findings.{InOrder, finding_of}
 use Rattle.judge.specs.Promise.{filled}
@@ -20,7 +20,7 @@ pub record Demand2 (W : ℕ) (n : Counts) (k : ℕ) (u : Rule) (s : List ℕ) (b
   -- each once, in order
   pub ordered : InOrder findings
   -- the total is their number, and that of what breaks the rule
-  pub total : r ≡ Count (length findings)
+  pub total : r ≡ Ok (length findings)
   pub number : Number (λ (p : ℕ × Second). Breaks (Holds W n s) n u p.0 p.1) (length findings)
   -- the list begins with the first ones as far as it reaches, and goes on as it was
   pub written : after ≡ filled findings before

@@ -7,8 +7,8 @@ use Rattle.rule.specs.declared.Finding.{Finding}
 use Rattle.rule.specs.declared.Rule.{Rule}
 use Rattle.judge.specs.declared.RuleRefusal.{RuleRefusal}
 use Rattle.judge.specs.declared.RuleRefusal.TheVariants.{Size, NotClosed, Malformed, Number}
-use Rattle.judge.specs.declared.Total.{Total}
-use Rattle.judge.specs.declared.Total.TheVariants.{Count, Refused}
+use Rattle.judge.specs.Total.{Total}
+use Rattle.std.specs.Prelude.{Err, Ok}
 use Rattle.rule.specs.Form.{WellFormed, RuleWithin}
 use Rattle.rule.specs.Findings.{Findings}
 
@@ -35,8 +35,8 @@ pub record Judged (W : ℕ) (n : Counts) (u : Rule) (s : List ℕ) : Type 0 wher
 
 -- the total of a rule's findings in the store s
 pub data Totals (W : ℕ) (n : Counts) (u : Rule) (s : List ℕ) : Total → Type 0 where
-  refused : {k : RuleRefusal} → Lowest (RuleFault W n u s) (number k) → Totals W n u s (Refused k)
-  counted : {fs : List Finding} → Judged W n u s → Findings (Holds W n s) n 0 u fs → Totals W n u s (Count (length fs))
+  refused : {k : RuleRefusal} → Lowest (RuleFault W n u s) (number k) → Totals W n u s (Err k)
+  counted : {fs : List Finding} → Judged W n u s → Findings (Holds W n s) n 0 u fs → Totals W n u s (Ok (length fs))
 
 -- a list that was lent, afterwards: the first of the findings as far as it reaches, then as it was
 abbrev pub filled : List Finding → List Finding → List Finding
@@ -44,6 +44,6 @@ filled fs before = take (min (length fs) (length before)) fs ++ drop (min (lengt
 
 -- the findings of a rule in the store s, written into a list: the first ones as far as it reaches, what is past them as it was; the total counts all
 pub data Lists (W : ℕ) (n : Counts) (k : ℕ) (u : Rule) (s : List ℕ) (before after : List Finding) : Total → Type 0 where
-  refused : {r : RuleRefusal} → Lowest (RuleFault W n u s) (number r) → after ≡ before → Lists W n k u s before after (Refused r)
+  refused : {r : RuleRefusal} → Lowest (RuleFault W n u s) (number r) → after ≡ before → Lists W n k u s before after (Err r)
   listed : {fs : List Finding} → Judged W n u s → Findings (Holds W n s) n k u fs
-      → after ≡ filled fs before → Lists W n k u s before after (Count (length fs))
+      → after ≡ filled fs before → Lists W n k u s before after (Ok (length fs))

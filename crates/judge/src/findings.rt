@@ -10,7 +10,7 @@ ghost use Rattle.judge.specs.own.Cursor.{Advances, Begins, PlanBroken, Sought, c
 use crate::Cursor;
 use breach::Plan;
 use row::Row;
-use rule::{Finding, Head, Second};
+use rule::{Finding, Head};
 use store::{Counts, Item, Layout};
 
 // How many numbers the row has.
@@ -150,13 +150,13 @@ pub fn advance(words: &[u64], at: Layout, counts: Counts, c: Cursor) -> Cursor
 }
 
 // The second item at a place.
-fn second_at(head: Head, y: usize) -> Second
+fn second_at(head: Head, y: usize) -> Option<Item>
     ensures { result ≡ second_at head y }
 {
     if breach::breaking::is_pair(head) {
-        return Second::Item(Item(y));
+        return Some(Item(y));
     }
-    Second::None
+    None
 }
 
 // The finding at the cursor, with the rule's number.

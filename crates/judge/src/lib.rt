@@ -8,6 +8,7 @@ ghost use Rattle.store.specs.Layout.{width_of};
 ghost use Rattle.judge.specs.Promise.{Totals};
 
 use breach::Plan;
+use refusal::Numbered;
 use row::Row;
 use rule::{Finding, Head, Rule};
 use store::{Counts, Layout};
@@ -25,11 +26,19 @@ pub enum RuleRefusal {
     Number,
 }
 
-// How many findings a rule has, or why it is refused.
-#[derive(Clone, Copy)]
-pub enum Total {
-    Count(u64),
-    Refused(RuleRefusal),
+impl Numbered for RuleRefusal {
+    ghost use Rattle.judge.specs.Promise.{number};
+
+    ghost number = { number };
+
+    fn number(self) -> u8 {
+        match self {
+            RuleRefusal::Size => 1,
+            RuleRefusal::NotClosed => 2,
+            RuleRefusal::Malformed => 3,
+            RuleRefusal::Number => 4,
+        }
+    }
 }
 
 // Where the findings are: the plan, the places that are left in the row of x, and the least of them, y. At the end x is the number of items.
@@ -58,13 +67,13 @@ pub struct Search {
 // What a listing needs: its answer, how many findings to write, and the search at the first.
 #[derive(Clone, Copy)]
 pub struct Prepared {
-    pub answer: Total,
+    pub answer: Result<u64, RuleRefusal>,
     pub write: usize,
     pub search: Search,
 }
 
 // How many findings the rule has in the store.
-pub fn count(words: &[u64], counts: Counts, rule: Rule) -> Total
+pub fn count(words: &[u64], counts: Counts, rule: Rule) -> Result<u64, RuleRefusal>
     ensures { Totals (width_of words.now) counts rule words.now result }
 {
     let p = seek::prepare(words, counts, 0, rule, 0);

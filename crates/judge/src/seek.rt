@@ -3,7 +3,7 @@ ghost use Rattle.store.specs.Layout.{ClosedStore};
 ghost use Rattle.store.specs.own.Laid.{Laid};
 ghost use Rattle.judge.specs.own.Search.{Prepares, Ready, Starts, Stepped, Stops, cursor_of, search_at};
 
-use crate::{Cursor, Prepared, RuleRefusal, Search, Total};
+use crate::{Cursor, Prepared, RuleRefusal, Search};
 use breach::Plan;
 use rule::Rule;
 use store::{Counts, Layout, Store};
@@ -77,7 +77,7 @@ pub fn start(
     let cursor = crate::findings::first(words, at, counts, plan, total);
     let search = search_at(cursor, number, at, counts);
     Prepared {
-        answer: Total::Count(total),
+        answer: Ok(total),
         write: row::number::lesser(total as usize, room),
         search,
     }
@@ -103,7 +103,7 @@ fn stop(counts: Counts, number: usize, rule: Rule, k: RuleRefusal) -> Prepared
     let at = store::size::layout(Store::SMALL);
     let search = search_at(cursor, number, at, counts);
     Prepared {
-        answer: Total::Refused(k),
+        answer: Err(k),
         write: 0,
         search,
     }

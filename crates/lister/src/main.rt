@@ -5,9 +5,9 @@
 
 ghost use Rattle.std.specs.Prelude.{◌≡◌, ◌≤◌, length};
 
-use judge::{RuleRefusal, Total};
-use rule::{Finding, Rule, Second};
-use sheet::Reading;
+use judge::RuleRefusal;
+use rule::{Finding, Rule};
+use sheet::{Accepted, Refused};
 use spelled::Spelled;
 use std::io;
 use store::{Counts, Item, Store};
@@ -33,14 +33,14 @@ const GARBAGE: u64 = 0x5555_5555_5555_5555;
 // What reading a sheet with a list gave: the answer, and the list afterwards.
 #[derive(Clone, Copy)]
 struct Listed {
-    pub answer: Reading,
+    pub answer: Result<Accepted, Refused>,
     pub list: [Finding; ROOM],
 }
 
 // What listing a rule's findings gave: the answer, and the list afterwards.
 #[derive(Clone, Copy)]
 struct Found {
-    pub answer: Total,
+    pub answer: Result<u64, RuleRefusal>,
     pub list: [Finding; ROOM],
 }
 
@@ -49,7 +49,7 @@ fn marked() -> [Finding; ROOM] {
     let mark = Finding {
         rule: 1000,
         item: Item(1000),
-        second: Second::Item(Item(1000)),
+        second: Some(Item(1000)),
     };
     [mark; ROOM]
 }
@@ -97,8 +97,8 @@ fn record(rt: &impl Print, f: Finding) -> io::Result<()> {
     let second = f.second;
     number(rt, item.0 as u64)?;
     match second {
-        Second::None => {}
-        Second::Item(b) => number(rt, b.0 as u64)?,
+        None => {}
+        Some(b) => number(rt, b.0 as u64)?,
     }
     end(rt)
 }
@@ -122,18 +122,18 @@ fn refused(rt: &impl Print, line: usize, k: u64) -> io::Result<()> {
 }
 
 // Prints the answer of reading a sheet.
-fn print_reading(rt: &impl Print, answer: Reading) -> io::Result<()> {
+fn print_reading(rt: &impl Print, answer: Result<Accepted, Refused>) -> io::Result<()> {
     match answer {
-        Reading::Accepted(counts, rules, total) => {
+        Ok(a) => {
             word(rt, b"accepted")?;
-            number(rt, counts.items as u64)?;
-            number(rt, counts.concepts as u64)?;
-            number(rt, counts.roles as u64)?;
-            number(rt, rules as u64)?;
-            number(rt, total)?;
+            number(rt, a.counts.items as u64)?;
+            number(rt, a.counts.concepts as u64)?;
+            number(rt, a.counts.roles as u64)?;
+            number(rt, a.rules as u64)?;
+            number(rt, a.findings)?;
             end(rt)
         }
-        Reading::Refused(line, k) => refused(rt, line, k as u64),
+        Err(r) => refused(rt, r.line, r.why as u64),
     }
 }
 
@@ -148,14 +148,14 @@ fn refusal(rt: &impl Print, k: RuleRefusal) -> io::Result<()> {
 }
 
 // Prints what is asked of a rule, and the answer.
-fn print_total(rt: &impl Print, asked: &[u8], answer: Total) -> io::Result<()> {
+fn print_total(rt: &impl Print, asked: &[u8], answer: Result<u64, RuleRefusal>) -> io::Result<()> {
     match answer {
-        Total::Count(n) => {
+        Ok(n) => {
             word(rt, asked)?;
             number(rt, n)?;
             end(rt)
         }
-        Total::Refused(k) => refusal(rt, k),
+        Err(k) => refusal(rt, k),
     }
 }
 
@@ -243,8 +243,8 @@ fn print_in(rt: &impl Print, input: &[u8], words: &mut [u64]) -> io::Result<()> 
     let answer = listed.answer;
     print_listed(rt, listed)?;
     match answer {
-        Reading::Accepted(counts, _, _) => judge_rules(rt, input, words, counts),
-        Reading::Refused(_, _) => Ok(()),
+        Ok(a) => judge_rules(rt, input, words, a.counts),
+        Err(_) => Ok(()),
     }
 }
 

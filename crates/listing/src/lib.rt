@@ -10,9 +10,9 @@ ghost use Rattle.listing.specs.own.Listing.{Written};
 ghost use Rattle.listing.specs.Promise.{ReadsInto};
 
 use field::Table;
-use judge::{Search, Total};
+use judge::{RuleRefusal, Search};
 use rule::{Finding, Rule};
-use sheet::Reading;
+use sheet::{Accepted, Refused};
 use store::Counts;
 use trail::Trail;
 
@@ -37,7 +37,7 @@ pub fn findings(
     number: usize,
     rule: Rule,
     list: &mut [Finding],
-) -> Total
+) -> Result<u64, RuleRefusal>
     ensures { Lists (width_of words.now) counts number rule words.now list.old list.new result }
 {
     let p = judge::seek::prepare(words, counts, number, rule, list.len());
@@ -69,7 +69,7 @@ fn write_all(
 }
 
 // Reads a sheet into the lent store, and the findings of its rules into the lent list, as far as it reaches. The numbers for names suffice with either store.
-pub fn read(sheet: &[u8], words: &mut [u64], list: &mut [Finding]) -> Reading
+pub fn read(sheet: &[u8], words: &mut [u64], list: &mut [Finding]) -> Result<Accepted, Refused>
     ensures { ReadsInto sheet.now words.old words.new list.old list.new result }
 {
     let mut names = [0u32; Table::LARGE_NUMBERS];

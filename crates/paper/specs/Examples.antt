@@ -10,7 +10,7 @@ use Rattle.rule.specs.declared.Head.TheVariants.{Sub, Ref, Irr}
 use Rattle.rule.specs.declared.Node.TheVariants.{Name, Top, Not, AtLeast}
 use Rattle.rule.specs.declared.RoleUse.{RoleUse}
 use Rattle.rule.specs.declared.Rule.{Rule}
-use Rattle.rule.specs.declared.Second.TheVariants as second
+use Rattle.std.specs.Prelude.{None}
 use Rattle.rule.specs.Breaks.{Breaks}
 use Rattle.paper.specs.Interpretation.{Entails}
 use Rattle.paper.specs.Satisfied.{ICSatisfies}
@@ -74,7 +74,7 @@ pub record Examples : Type 1 where
   pub example-7-same : ¬ (ICSatisfies (named 3) (Stated (one_article ∷ example7)) (sub_at_least 2))
   -- Example 10: the findings of Example 1's rule are the answers of the query Product(x), not (hasProducer(x, y), Producer(y)), for any statements
   pub example-10 : {n : Counts} {lines : List Statement} → ((c : Cell) → Stated lines c → Within n c) → (x : ℕ)
-      → Breaks (Follows n (Stated lines)) n (sub_at_least 1) x second.None
+      → Breaks (Follows n (Stated lines)) n (sub_at_least 1) x None
       ↔ (Entails n (Stated lines) (In x 0) × ¬ ((y : ℕ) × Entails n (Stated lines) (Link 0 x y) × Entails n (Stated lines) (In y 1)))
   -- under Table 2: where no item is declared, every role is both reflexive and irreflexive
   pub no_items : {n : Counts} {G : Cell → Type 0} {u v : Rule} {r : RoleUse} → n.items ≡ 0 → u.head ≡ Ref r → v.head ≡ Irr r → ICSatisfies n G u × ICSatisfies n G v

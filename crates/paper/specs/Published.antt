@@ -10,13 +10,13 @@ use Rattle.store.specs.Layout.{Holds}
 use Rattle.closure.specs.Lines.{Stated}
 use Rattle.rule.specs.declared.Finding.{Finding}
 use Rattle.rule.specs.declared.Rule.{Rule}
-use Rattle.rule.specs.declared.Second.{Second}
-use Rattle.judge.specs.declared.Total.TheVariants.{Count}
+use Rattle.rule.specs.Second.{Second}
+use Rattle.std.specs.Prelude.{Ok}
 use Rattle.rule.specs.Breaks.{Breaks}
 use Rattle.rule.specs.Findings.{Findings, finding_of}
 use Rattle.rule.specs.Form.{RuleWithin, WellFormed}
 use Rattle.judge.specs.Promise.{Judged, Totals}
-use Rattle.query.specs.declared.Outcome.TheVariants.{Compiled}
+use Rattle.query.specs.Outcome.{compiled_as}
 use Rattle.query.specs.Promise.{Compiles}
 use Rattle.sense.specs.Says.{Answer}
 use Rattle.paper.specs.Interpretation.{Interpretation, Entails, Minimal}
@@ -44,7 +44,7 @@ pub record PublishedStore (W : ℕ) (n : Counts) (Given : Cell → Type 0) (s : 
   -- there are no findings exactly if the rule is IC-satisfied
   pub satisfied : {k : ℕ} {u : Rule} {fs : List Finding} → Judged W n u s → Findings (Holds W n s) n k u fs → ICSatisfies n Given u ↔ (length fs ≡ 0)
   -- and so the total that is reported is 0 exactly then
-  pub total : {u : Rule} {m : ℕ} → Totals W n u s (Count m) → ICSatisfies n Given u ↔ (m ≡ 0)
+  pub total : {u : Rule} {m : ℕ} → Totals W n u s (Ok m) → ICSatisfies n Given u ↔ (m ≡ 0)
   -- 000, Theorem 1: a compiled rule is IC-satisfied exactly if its query has no answer
-  pub query : {W' j items k : ℕ} {u : Rule} {fs : List Finding} {before after : List ℕ} → Judged W n u s → Findings (Holds W n s) n j u fs → Compiles W' n u before after (Compiled items k)
+  pub query : {W' j items k : ℕ} {u : Rule} {fs : List Finding} {before after : List ℕ} → Judged W n u s → Findings (Holds W n s) n j u fs → Compiles W' n u before after (compiled_as items k)
       → ICSatisfies n Given u ↔ ((xs : List ℕ) → ¬ (Answer (Holds W n s) n k (take (4 * items) after) xs))

@@ -7,8 +7,8 @@ use Rattle.rule.specs.declared.Head.{Head}
 use Rattle.rule.specs.declared.Head.TheVariants.{Sub, RoleSub, Chain, Ref, Irr, Dis, In, Rel, NoRel, Same, Differ}
 use Rattle.rule.specs.declared.RoleUse.{RoleUse}
 use Rattle.rule.specs.declared.Rule.{Rule}
-use Rattle.rule.specs.declared.Second.{Second}
-use Rattle.rule.specs.declared.Second.TheVariants as second
+use Rattle.rule.specs.Second.{Second}
+use Rattle.std.specs.Prelude.{None, Some}
 use Rattle.rule.specs.declared.Slot.{Slot}
 use Rattle.rule.specs.Expr.{expr_of}
 use Rattle.paper.specs.Interpretation.{Interpretation, Minimal}
@@ -35,18 +35,18 @@ pub record ICSatisfies (n : Counts) (Given : Cell → Type 0) (u : Rule) : Type 
 
 -- The value of the item x, or the values of x and a second item, break the condition of Table 2: one line a row.
 pub data ValueBreaks (n : Counts) (U : Interpretation → Type 1) (I : Interpretation) (ns : List Slot) : Head → ℕ → Second → Type 1 where
-  sub : {c d x : ℕ} → DeclaredItem n x → KnownOf n U I (expr_of ns c) (I.item x) → ¬ (KnownOf n U I (expr_of ns d) (I.item x)) → ValueBreaks n U I ns (Sub c d) x second.None
+  sub : {c d x : ℕ} → DeclaredItem n x → KnownOf n U I (expr_of ns c) (I.item x) → ¬ (KnownOf n U I (expr_of ns d) (I.item x)) → ValueBreaks n U I ns (Sub c d) x None
   rsub : {r s : RoleUse} {x : ℕ} {y : Item} → DeclaredItem n x → DeclaredItem n y.0 → KnownRole n U I r (I.item x) (I.item y.0) → ¬ (KnownRole n U I s (I.item x) (I.item y.0))
-      → ValueBreaks n U I ns (RoleSub r s) x (second.Item y)
+      → ValueBreaks n U I ns (RoleSub r s) x (Some y)
   chain : {k : ℕ} {r1 r2 r3 r4 r : RoleUse} {x : ℕ} {y : Item} → DeclaredItem n x → DeclaredItem n y.0
       → Composed n U I (take k (r1 ∷ r2 ∷ r3 ∷ r4 ∷ [])) (I.item x) (I.item y.0) → ¬ (KnownRole n U I r (I.item x) (I.item y.0))
-      → ValueBreaks n U I ns (Chain k r1 r2 r3 r4 r) x (second.Item y)
-  ref : {r : RoleUse} {x : ℕ} → DeclaredItem n x → ¬ (KnownRole n U I r (I.item x) (I.item x)) → ValueBreaks n U I ns (Ref r) x second.None
-  irr : {r : RoleUse} {x : ℕ} → DeclaredItem n x → KnownRole n U I r (I.item x) (I.item x) → ValueBreaks n U I ns (Irr r) x second.None
+      → ValueBreaks n U I ns (Chain k r1 r2 r3 r4 r) x (Some y)
+  ref : {r : RoleUse} {x : ℕ} → DeclaredItem n x → ¬ (KnownRole n U I r (I.item x) (I.item x)) → ValueBreaks n U I ns (Ref r) x None
+  irr : {r : RoleUse} {x : ℕ} → DeclaredItem n x → KnownRole n U I r (I.item x) (I.item x) → ValueBreaks n U I ns (Irr r) x None
   dis : {r s : RoleUse} {x : ℕ} {y : Item} → DeclaredItem n x → DeclaredItem n y.0 → KnownRole n U I r (I.item x) (I.item y.0) → KnownRole n U I s (I.item x) (I.item y.0)
-      → ValueBreaks n U I ns (Dis r s) x (second.Item y)
-  isin : {c : ℕ} {a : Item} → ¬ (KnownOf n U I (expr_of ns c) (I.item a.0)) → ValueBreaks n U I ns (In c a) a.0 second.None
-  rel : {r : RoleUse} {a b : Item} → ¬ (KnownRole n U I r (I.item a.0) (I.item b.0)) → ValueBreaks n U I ns (Rel r a b) a.0 (second.Item b)
-  norel : {r : RoleUse} {a b : Item} → KnownRole n U I r (I.item a.0) (I.item b.0) → ValueBreaks n U I ns (NoRel r a b) a.0 (second.Item b)
-  same : {a b : Item} → ¬ (Equal (I.item a.0) (I.item b.0)) → ValueBreaks n U I ns (Same a b) a.0 (second.Item b)
-  differ : {a b : Item} → Equal (I.item a.0) (I.item b.0) → ValueBreaks n U I ns (Differ a b) a.0 (second.Item b)
+      → ValueBreaks n U I ns (Dis r s) x (Some y)
+  isin : {c : ℕ} {a : Item} → ¬ (KnownOf n U I (expr_of ns c) (I.item a.0)) → ValueBreaks n U I ns (In c a) a.0 None
+  rel : {r : RoleUse} {a b : Item} → ¬ (KnownRole n U I r (I.item a.0) (I.item b.0)) → ValueBreaks n U I ns (Rel r a b) a.0 (Some b)
+  norel : {r : RoleUse} {a b : Item} → KnownRole n U I r (I.item a.0) (I.item b.0) → ValueBreaks n U I ns (NoRel r a b) a.0 (Some b)
+  same : {a b : Item} → ¬ (Equal (I.item a.0) (I.item b.0)) → ValueBreaks n U I ns (Same a b) a.0 (Some b)
+  differ : {a b : Item} → Equal (I.item a.0) (I.item b.0) → ValueBreaks n U I ns (Differ a b) a.0 (Some b)

@@ -11,7 +11,7 @@ ghost use Rattle.printed.specs.own.Lines.{RuleLines, Tallied, Tallying, line_tex
 
 use field::Table;
 use judge::Search;
-use rule::{Finding, Rule, Second};
+use rule::{Finding, Rule};
 use store::{Counts, Item, Layout};
 
 // How far the findings are printed: the place in the room, how many more may be printed, and how many there are so far in all.
@@ -63,7 +63,7 @@ fn put_second(
     sheet: &[u8],
     names: &[u32],
     counts: Counts,
-    s: Second,
+    s: Option<Item>,
     room: &mut [u8],
     at: usize,
 ) -> usize
@@ -71,8 +71,8 @@ fn put_second(
     ensures { (Wrote room.old at (second_text (names_of sheet.now (table_of names.now counts)) s) room.new result) × (result ≤ at + 32) }
 {
     match s {
-        Second::None => at,
-        Second::Item(b) => put_name(sheet, names, counts, b, room, at),
+        None => at,
+        Some(b) => put_name(sheet, names, counts, b, room, at),
     }
 }
 

@@ -5,8 +5,9 @@ use Rattle.store.specs.declared.Counts.{Counts}
 use Rattle.store.specs.Layout.{Fits}
 use Rattle.rule.specs.declared.Rule.{Rule}
 use Rattle.rule.specs.Form.{WellFormed, RuleWithin}
-use Rattle.query.specs.declared.Outcome.{Outcome}
-use Rattle.query.specs.declared.Outcome.TheVariants.{Compiled, Refused}
+use Rattle.query.specs.Outcome.{Outcome}
+use Rattle.query.specs.Outcome.{compiled_as}
+use Rattle.std.specs.Prelude.{Err}
 use Rattle.query.specs.declared.QueryRefusal.{QueryRefusal}
 use Rattle.query.specs.declared.QueryRefusal.TheVariants.{Size, Malformed, Number, Long, Room}
 use Rattle.body.specs.Body.{flat, size}
@@ -40,6 +41,6 @@ pub record Compilable (W : ℕ) (n : Counts) (u : Rule) (room : List ℕ) : Type
 -- A refusal leaves the room as it was. Otherwise the room begins with the query and goes on as it was, and the answer is the query's length and the number of its
 -- answer variables.
 pub data Compiles (W : ℕ) (n : Counts) (u : Rule) (before after : List ℕ) : Outcome → Type 0 where
-  refused : {k : QueryRefusal} → Lowest (CompileFault W n u before) (number k) → after ≡ before → Compiles W n u before after (Refused k)
+  refused : {k : QueryRefusal} → Lowest (CompileFault W n u before) (number k) → after ≡ before → Compiles W n u before after (Err k)
   compiled : Compilable W n u before → after ≡ flat (query_of u) ++ drop (4 * size (query_of u)) before
-      → Compiles W n u before after (Compiled (size (query_of u)) (answers_of u.head))
+      → Compiles W n u before after (compiled_as (size (query_of u)) (answers_of u.head))

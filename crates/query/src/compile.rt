@@ -6,7 +6,7 @@ ghost use Rattle.body.specs.Translation.{answers_of};
 ghost use Rattle.query.specs.Promise.{Compiles};
 ghost use Rattle.query.specs.own.Filling.{Filled, Spacious};
 
-use crate::{Outcome, Query, QueryRefusal};
+use crate::{Compiled, Query, QueryRefusal};
 use body::{Body, Cursor};
 use rule::{Head, RoleUse, Rule, Slot};
 use store::{Counts, Item, Store};
@@ -155,29 +155,32 @@ fn fill(head: Head, nodes: [Slot; Rule::NODES], room: &mut [u16])
 
 impl Query {
     // Compiles a rule: writes its query from the start of the room, and says how long it is and how many answer variables it has.
-    pub fn compile(counts: Counts, rule: Rule, room: &mut [u16]) -> Outcome
+    pub fn compile(counts: Counts, rule: Rule, room: &mut [u16]) -> Result<Compiled, QueryRefusal>
         ensures { Compiles large counts rule room.old room.new result }
     {
         if !store::size::fits(Store::LARGE, counts) {
-            return Outcome::Refused(QueryRefusal::Size);
+            return Err(QueryRefusal::Size);
         }
         if !form::well_formed(rule) {
-            return Outcome::Refused(QueryRefusal::Malformed);
+            return Err(QueryRefusal::Malformed);
         }
         if !form::rule_within(counts, rule) {
-            return Outcome::Refused(QueryRefusal::Number);
+            return Err(QueryRefusal::Number);
         }
         let head = rule.head;
         let nodes = rule.nodes;
         let n = body::length::rule_length(head, nodes);
         if Body::ITEMS < n {
-            return Outcome::Refused(QueryRefusal::Long);
+            return Err(QueryRefusal::Long);
         }
         if room.len() < Body::WORDS * n {
-            return Outcome::Refused(QueryRefusal::Room);
+            return Err(QueryRefusal::Room);
         }
         fill(head, nodes, room);
-        let answers = answers_of(head);
-        Outcome::Compiled(n, answers)
+        let query = Compiled {
+            items: n,
+            answers: answers_of(head),
+        };
+        Ok(query)
     }
 }

@@ -3,6 +3,8 @@
 
 mod compile;
 
+use refusal::Numbered;
+
 // What compiles a rule.
 #[derive(Drop)]
 pub struct Query {}
@@ -22,9 +24,25 @@ pub enum QueryRefusal {
     Room,
 }
 
-// The number of items of the query and of its answer variables, or why there is none.
+impl Numbered for QueryRefusal {
+    ghost use Rattle.query.specs.Promise.{number};
+
+    ghost number = { number };
+
+    fn number(self) -> u8 {
+        match self {
+            QueryRefusal::Size => 1,
+            QueryRefusal::Malformed => 3,
+            QueryRefusal::Number => 4,
+            QueryRefusal::Long => 5,
+            QueryRefusal::Room => 6,
+        }
+    }
+}
+
+// The number of items of a query and of its answer variables.
 #[derive(Clone, Copy)]
-pub enum Outcome {
-    Compiled(usize, usize),
-    Refused(QueryRefusal),
+pub struct Compiled {
+    pub items: usize,
+    pub answers: usize,
 }

@@ -1,7 +1,7 @@
 -- What is printed for a sheet, with a store of its own or a lent one, and what the lent store becomes.
 use Rattle.std.specs.Prelude.{◌≡◌, cond, List, ℕ, ltb, length}
 use Rattle.store.specs.Layout.{size, small, width_of}
-use Rattle.sheet.specs.declared.Reading.{Reading}
+use Rattle.sheet.specs.Reading.{Reading}
 use Rattle.sheet.specs.Promise.{Prints, Reads, refused_text}
 use Rattle.text.specs.Text.{Wrote}
 

@@ -7,8 +7,8 @@ use Rattle.rule.specs.declared.Head.{Head}
 use Rattle.rule.specs.declared.Head.TheVariants.{Sub, RoleSub, Chain, Ref, Irr, Dis, In, Rel, NoRel, Same, Differ}
 use Rattle.rule.specs.declared.Rule.{Rule}
 use Rattle.rule.specs.declared.RoleUse.{RoleUse}
-use Rattle.rule.specs.declared.Second.{Second}
-use Rattle.rule.specs.declared.Second.TheVariants as second
+use Rattle.rule.specs.Second.{Second}
+use Rattle.std.specs.Prelude.{None, Some}
 use Rattle.rule.specs.declared.Slot.{Slot}
 use Rattle.rule.specs.Expr.{expr_of}
 use Rattle.rule.specs.Meaning.{Linked, HoldsOf}
@@ -48,5 +48,5 @@ BreaksPair C n (Differ a b) x y = (x ≡ a.0) × (y ≡ b.0) × C (SameCell x y)
 
 -- the rule is broken by x, alone or with a second item, over declared items only
 abbrev pub Breaks : (Cell → Type 0) → Counts → Rule → ℕ → Second → Type 0
-Breaks C n u x second.None = DeclaredItem n x × BreaksAlone C n u.nodes u.head x
-Breaks C n u x (second.Item y) = DeclaredItem n x × DeclaredItem n y.0 × BreaksPair C n u.head x y.0
+Breaks C n u x None = DeclaredItem n x × BreaksAlone C n u.nodes u.head x
+Breaks C n u x (Some y) = DeclaredItem n x × DeclaredItem n y.0 × BreaksPair C n u.head x y.0

@@ -5,16 +5,16 @@ use Rattle.store.specs.declared.Counts.{Counts}
 use Rattle.store.specs.Cell.{Cell}
 use Rattle.rule.specs.declared.Finding.{Finding}
 use Rattle.rule.specs.declared.Rule.{Rule}
-use Rattle.rule.specs.declared.Second.{Second}
-use Rattle.rule.specs.declared.Second.TheVariants as second
+use Rattle.rule.specs.Second.{Second}
+use Rattle.std.specs.Prelude.{None, Some}
 use Rattle.rule.specs.Breaks.{Breaks}
 
 -- the order of second items
 abbrev pub SecondBefore : Second → Second → Type 0
-SecondBefore second.None second.None = ⊥
-SecondBefore second.None (second.Item j) = Unit {0}
-SecondBefore (second.Item i) second.None = ⊥
-SecondBefore (second.Item i) (second.Item j) = i.0 < j.0
+SecondBefore None None = ⊥
+SecondBefore None (Some j) = Unit {0}
+SecondBefore (Some i) None = ⊥
+SecondBefore (Some i) (Some j) = i.0 < j.0
 
 -- the order of findings of one rule
 abbrev pub Before : Finding → Finding → Type 0

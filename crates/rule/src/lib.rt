@@ -73,17 +73,10 @@ impl Rule {
     pub const LONGEST: usize = 4;
 }
 
-// The second item of a finding, or none.
-#[derive(Clone, Copy)]
-pub enum Second {
-    None,
-    Item(Item),
-}
-
 // What breaks a rule: the rule's number, an item, and a second item or none.
 #[derive(Clone, Copy)]
 pub struct Finding {
     pub rule: usize,
     pub item: Item,
-    pub second: Second,
+    pub second: Option<Item>,
 }

@@ -1,7 +1,7 @@
 -- The answers of the entry points as signed numbers: the cells, or minus the number of refusal.
 use Rattle.std.specs.Prelude.{◌≡◌, List, ℕ, ℤ}
 use Rattle.store.specs.declared.Counts.{Counts}
-use Rattle.closure.specs.declared.Answer.{Answer}
+use Rattle.closure.specs.Refusal.{Answer}
 use Rattle.store.specs.Layout.{width_of}
 use Rattle.closure.specs.Promise.{Makes}
 use Rattle.batch.specs.Codes.{code_of}

@@ -1,8 +1,8 @@
 -- What the host gets for a question: the text, or minus 8 where it is longer than the room; and reasons by number.
 use Rattle.std.specs.Prelude.{◌≡◌, List, ℕ, ℤ}
 use Rattle.store.specs.Cell.{Cell}
-use Rattle.why.specs.declared.Explained.{Explained}
-use Rattle.finding.specs.declared.FindingExplained.{FindingExplained}
+use Rattle.why.specs.Explained.{Explained}
+use Rattle.finding.specs.Explained.{FindingExplained}
 use Rattle.finding.specs.Finding.{ExplainsFinding}
 use Rattle.why.specs.Promise.{Explains}
 use Rattle.store.specs.Layout.{small}

@@ -18,7 +18,7 @@ use store::{Concept, Counts, Item, Role, Statement};
 fn add(words: &mut [u64], n: Counts, s: Statement) -> i64
     ensures { AddCode n (cell_of s) words.old words.new result }
 {
-    batch::number::code(closure::add(words, n, s))
+    refusal::signed(closure::add(words, n, s))
 }
 
 // Makes the lent words a fresh store.
@@ -33,7 +33,7 @@ pub fn saltreeve_fresh(words: &mut [u64], items: usize, concepts: usize, roles: 
             roles,
         },
     );
-    batch::number::code(a)
+    refusal::signed(a)
 }
 
 // Adds "a is the same as b".

@@ -24,7 +24,7 @@ pub fn saltreeve_convert(
         },
         target,
     );
-    convert::number::code(a)
+    refusal::signed(a)
 }
 
 // Adds statements one after the other, as many as have a place for their answers, and says how many they are.

@@ -5,15 +5,15 @@ use Rattle.store.specs.declared.Counts.{Counts}
 use Rattle.store.specs.declared.Item.{Item}
 use Rattle.store.specs.Cell.{Cell}
 use Rattle.rule.specs.declared.Finding.{Finding}
-use Rattle.rule.specs.declared.Second.{Second}
-use Rattle.rule.specs.declared.Second.TheVariants as second
+use Rattle.rule.specs.Second.{Second}
+use Rattle.std.specs.Prelude.{None, Some}
 use Rattle.sense.specs.Says.{Answer}
 
 -- a finding as the items of the answer variables: none of them where the rule has no x, the item where it has x alone, both where it has x and y
 pub data Shown : ℕ → ℕ → Second → List ℕ → Type 0 where
   yes : {x : ℕ} {s : Second} → Shown 0 x s []
-  alone : {x : ℕ} → Shown 1 x second.None (x ∷ [])
-  pair : {x : ℕ} {y : Item} → Shown 2 x (second.Item y) (x ∷ y.0 ∷ [])
+  alone : {x : ℕ} → Shown 1 x None (x ∷ [])
+  pair : {x : ℕ} {y : Item} → Shown 2 x (Some y) (x ∷ y.0 ∷ [])
 
 -- the query with these words and k answer variables has the findings fs as its answers, over the cells C
 pub record SameAnswers (C : Cell → Type 0) (n : Counts) (k : ℕ) (ws : List ℕ) (fs : List Finding) : Type 0 where

@@ -8,7 +8,7 @@ use Rattle.store.specs.Layout.{size, width_of}
 use Rattle.rule.specs.declared.Rule.{Rule}
 use Rattle.field.specs.declared.Form.TheVariants as form
 use Rattle.field.specs.declared.StatementWord.{StatementWord}
-use Rattle.sheet.specs.declared.Reading.{Reading}
+use Rattle.sheet.specs.Reading.{Reading}
 use Rattle.line.specs.Fault.{begun, sheet_limit}
 use Rattle.field.specs.Names.{counts_of}
 use Rattle.field.specs.Words.{form_of}

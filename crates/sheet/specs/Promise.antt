@@ -8,11 +8,11 @@ use Rattle.store.specs.Cell.{Cell}
 use Rattle.store.specs.Layout.{Holds, size, width_of}
 use Rattle.store.specs.Keeps.{Keeps}
 use Rattle.rule.specs.declared.Finding.{Finding}
-use Rattle.rule.specs.declared.Second.{Second}
-use Rattle.rule.specs.declared.Second.TheVariants as second
+use Rattle.rule.specs.Second.{Second}
+use Rattle.std.specs.Prelude.{None, Some}
 use Rattle.rule.specs.Findings.{Findings}
-use Rattle.sheet.specs.declared.Reading.{Reading}
-use Rattle.sheet.specs.declared.Reading.TheVariants as reading
+use Rattle.sheet.specs.Reading.{Reading}
+use Rattle.sheet.specs.Reading.{accepted_as, refused_as}
 use Rattle.line.specs.Fault.{begun}
 use Rattle.field.specs.Names.{Names, counts_of}
 use Rattle.sheet.specs.Said.{Said, SheetRule, StatedIn, Outcome, line_of, marks_of, outcome}
@@ -48,10 +48,10 @@ FindingsIn W x t fs = FindingsFrom (Holds W (counts_of x.names) t) (counts_of x.
 
 -- the answer of reading the sheet into the store s, which becomes t. Of the store only its length is asked: 1
 pub data Reads (sheet s t : List ℕ) : Reading → Type 0 where
-  wrong_size : ¬ (length s ≡ size (width_of s)) → t ≡ s → Reads sheet s t (reading.Refused 0 1)
-  refused : {n k : ℕ} {x : Said} → length s ≡ size (width_of s) → outcome (width_of s) sheet ≡ refused_at n k x → Leaves (width_of s) (refused_at n k x) s t → Reads sheet s t (reading.Refused n k)
+  wrong_size : ¬ (length s ≡ size (width_of s)) → t ≡ s → Reads sheet s t (refused_as 0 1)
+  refused : {n k : ℕ} {x : Said} → length s ≡ size (width_of s) → outcome (width_of s) sheet ≡ refused_at n k x → Leaves (width_of s) (refused_at n k x) s t → Reads sheet s t (refused_as n k)
   accepted : {x : Said} {fs : List Finding} → length s ≡ size (width_of s) → outcome (width_of s) sheet ≡ accepted_sheet x → Leaves (width_of s) (accepted_sheet x) s t → FindingsIn (width_of s) x t fs
-      → Reads sheet s t (reading.Accepted (counts_of x.names) (length x.rules) (length fs))
+      → Reads sheet s t (accepted_as (counts_of x.names) (length x.rules) (length fs))
 
 -- a field after a tab
 abbrev pub tabbed : List ℕ → List ℕ
@@ -59,8 +59,8 @@ tabbed f = 9 ∷ f
 
 -- the second item of a finding, if there is one
 abbrev pub second_text : Names → Second → List ℕ
-second_text n second.None = []
-second_text n (second.Item j) = tabbed (get_or n.items j.0 [])
+second_text n None = []
+second_text n (Some j) = tabbed (get_or n.items j.0 [])
 
 -- `finding`, the rule's line number, item, second item if any
 unfoldable pub finding_text : Said → Finding → List ℕ

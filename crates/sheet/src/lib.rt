@@ -54,25 +54,31 @@ pub struct RuleLine {
     pub rule: Rule,
 }
 
-// What reading a sheet gives.
+// What an accepted sheet has: how many names are declared, how many rules there are, and how many findings they have in all.
 #[derive(Clone, Copy)]
-pub enum Reading {
-    // How many names are declared, how many rules there are, and how many findings they have in all.
-    Accepted(Counts, usize, u64),
-    // The line and the number of refusal; line 0 is the whole sheet.
-    Refused(usize, usize),
+pub struct Accepted {
+    pub counts: Counts,
+    pub rules: usize,
+    pub findings: u64,
+}
+
+// Why a sheet is refused: the line and the number of refusal; line 0 is the whole sheet.
+#[derive(Clone, Copy)]
+pub struct Refused {
+    pub line: usize,
+    pub why: usize,
 }
 
 // What reading a sheet gives, how many names it declares, and where its rules begin.
 #[derive(Clone, Copy)]
 pub struct Whole {
-    pub answer: Reading,
+    pub answer: Result<Accepted, Refused>,
     pub counts: Counts,
     pub start: Start,
 }
 
 // Reads a sheet into a lent store, which may be the larger one.
-fn read_large(sheet: &[u8], words: &mut [u64]) -> Reading
+fn read_large(sheet: &[u8], words: &mut [u64]) -> Result<Accepted, Refused>
     ensures { Reads sheet.now words.old words.new result }
 {
     let mut names = [0u32; Table::LARGE_NUMBERS];
@@ -81,7 +87,7 @@ fn read_large(sheet: &[u8], words: &mut [u64]) -> Reading
 }
 
 // Reads a sheet into the lent store: what follows from its statements, and how many findings its rules have.
-pub fn read(sheet: &[u8], words: &mut [u64]) -> Reading
+pub fn read(sheet: &[u8], words: &mut [u64]) -> Result<Accepted, Refused>
     ensures { Reads sheet.now words.old words.new result }
 {
     if words.len() == Store::LARGE_WORDS {

@@ -6,17 +6,17 @@ ghost use Rattle.field.specs.own.Table.{number_count, table_of};
 ghost use Rattle.sheet.specs.own.Pass.{Judges, Totalled, Wholly, counted_in};
 ghost use Rattle.sheet.specs.own.Stands.{Since};
 
-use crate::{Reading, Start, Whole};
-use judge::Total;
+use crate::{Accepted, Refused, Start, Whole};
+use judge::RuleRefusal;
 use store::{Counts, Layout};
 
 // How many findings an answer counts.
-pub fn counted(t: Total) -> u64
+pub fn counted(t: Result<u64, RuleRefusal>) -> u64
     ensures { result ≡ counted_in t }
 {
     match t {
-        Total::Count(m) => m,
-        Total::Refused(_) => 0,
+        Ok(m) => m,
+        Err(_) => 0,
     }
 }
 
@@ -54,7 +54,7 @@ pub fn whole(sheet: &[u8], words: &mut [u64], names: &mut [u32]) -> Whole
     if !store::size::long(words) {
         let counts = field::tables::none();
         return Whole {
-            answer: Reading::Refused(0, 1),
+            answer: Err(Refused { line: 0, why: 1 }),
             counts,
             start: Start { at: 0, line: 0 },
         };
@@ -68,13 +68,13 @@ pub fn whole(sheet: &[u8], words: &mut [u64], names: &mut [u32]) -> Whole
         let marks = kept.marks;
         let total = count_all(sheet, words, at, names, counts, start);
         return Whole {
-            answer: Reading::Accepted(counts, marks.rules, total),
+            answer: Ok(Accepted { counts, rules: marks.rules, findings: total }),
             counts,
             start,
         };
     }
     Whole {
-        answer: Reading::Refused(e.line, e.why),
+        answer: Err(Refused { line: e.line, why: e.why }),
         counts,
         start,
     }

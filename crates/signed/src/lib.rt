@@ -4,8 +4,8 @@
 ghost use Rattle.std.specs.Prelude.{◌≡◌, ◌<◌};
 ghost use Rattle.signed.specs.Codes.{SmallExplained, SmallFinding, explained_code, finding_code, refusal_code};
 
-use finding::FindingExplained;
-use why::Explained;
+use finding::Explained;
+use sheet::Refused;
 
 // A refusal as a signed number.
 fn refusal(line: usize, k: usize) -> i64
@@ -16,23 +16,23 @@ fn refusal(line: usize, k: usize) -> i64
 }
 
 // An answer as a signed number: the lines, or a refusal.
-pub fn explained(r: Explained) -> i64
+pub fn explained(r: Result<usize, Refused>) -> i64
     requires { SmallExplained r }
     ensures { result ≡ explained_code r }
 {
     match r {
-        Explained::Lines(m) => m as i64,
-        Explained::Refused(line, k) => refusal(line, k),
+        Ok(m) => m as i64,
+        Err(q) => refusal(q.line, q.why),
     }
 }
 
 // The same for a finding, with the concept that is absent.
-pub fn finding(r: FindingExplained) -> i64
+pub fn finding(r: Result<Explained, Refused>) -> i64
     requires { SmallFinding r }
     ensures { result ≡ finding_code r }
 {
     match r {
-        FindingExplained::Lines(m, d) => (1000000 * d.0 + m) as i64,
-        FindingExplained::Refused(line, k) => refusal(line, k),
+        Ok(e) => (1000000 * e.absent.0 + e.lines) as i64,
+        Err(q) => refusal(q.line, q.why),
     }
 }

@@ -9,8 +9,8 @@ ghost use Rattle.trail.specs.own.Trail.{Ended, Going, Opens, Sought, Steps, sear
 
 use judge::Search;
 use row::Row;
-use rule::{Finding, Head, Second};
-use sheet::Reading;
+use rule::{Finding, Head};
+use sheet::{Accepted, Refused};
 use store::{Counts, Item, Layout, Store};
 
 // A search for the findings of all rules of a sheet: the finding at hand, the search of its rule, how many that rule has left, how many names are declared, and where the sheet is read on for the next rule.
@@ -35,7 +35,7 @@ pub struct Trail {
 // What reading a sheet with a list needs: its answer, how many findings to write, and the trail at the first.
 #[derive(Clone, Copy)]
 pub struct Opening {
-    pub answer: Reading,
+    pub answer: Result<Accepted, Refused>,
     pub write: usize,
     pub trail: Trail,
 }
@@ -108,7 +108,7 @@ fn ended(counts: Counts, past: usize, line: usize, number: usize) -> Trail
     let finding = Finding {
         rule: 0,
         item: Item(0),
-        second: Second::None,
+        second: None,
     };
     let s = Search {
         finding,
@@ -194,8 +194,8 @@ pub fn open(sheet: &[u8], words: &mut [u64], names: &mut [u32], room: usize) -> 
     let counts = w.counts;
     let start = w.start;
     match answer {
-        Reading::Accepted(_, _, total) => {
-            let write = fewer(total, room);
+        Ok(read) => {
+            let write = fewer(read.findings, room);
             let trail = seek(sheet, names, counts, words, start.at, start.line, 0);
             Opening {
                 answer,
@@ -203,7 +203,7 @@ pub fn open(sheet: &[u8], words: &mut [u64], names: &mut [u32], room: usize) -> 
                 trail,
             }
         }
-        Reading::Refused(_, _) => {
+        Err(_) => {
             let trail = ended(counts, 0, 0, 0);
             Opening {
                 answer,

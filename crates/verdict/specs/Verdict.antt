@@ -4,13 +4,13 @@ use Rattle.logic.specs.Number.{One}
 use Rattle.store.specs.Layout.{small}
 use Rattle.rule.specs.declared.Finding.{Finding}
 use Rattle.rule.specs.declared.Rule.{Rule}
-use Rattle.rule.specs.declared.Second.{Second}
+use Rattle.rule.specs.Second.{Second}
 use Rattle.judge.specs.Promise.{filled}
 use Rattle.text.specs.Split.{lines}
 use Rattle.field.specs.Names.{counts_of}
 use Rattle.saying.specs.Meant.{meaning_of}
-use Rattle.sheet.specs.declared.Reading.{Reading}
-use Rattle.sheet.specs.declared.Reading.TheVariants.{Accepted}
+use Rattle.sheet.specs.Reading.{Reading}
+use Rattle.sheet.specs.Reading.{accepted_as}
 use Rattle.sheet.specs.Meant.{lines_mean, meanings}
 use Rattle.sheet.specs.Demand3.{Sizes}
 use Rattle.sheet.specs.Promise.{Prints, Reads, findings_text, print_limit, total_text}
@@ -24,7 +24,7 @@ use Rattle.verdict.specs.Violations.{MinimalModel, Violations}
 
 -- the answer for a sheet with these violations: what it declares, its rules, and how many they are
 abbrev pub answer_of : Said → List Finding → Reading
-answer_of x fs = Accepted (counts_of x.names) (length x.rules) (length fs)
+answer_of x fs = accepted_as (counts_of x.names) (length x.rules) (length fs)
 
 -- the text for a sheet with these violations: a line each, 200 at most, and how many they are
 abbrev pub text_of : Said → List Finding → List ℕ

@@ -3,7 +3,7 @@ use Rattle.std.specs.Prelude.{◌≡◌, ◌↔◌, ◌⊎◌, List, [], ◌∷�
 use Rattle.logic.specs.Number.{One}
 use Rattle.rule.specs.declared.Finding.{Finding}
 use Rattle.rule.specs.declared.Rule.{Rule}
-use Rattle.rule.specs.declared.Second.{Second}
+use Rattle.rule.specs.Second.{Second}
 use Rattle.rule.specs.Findings.{Before}
 use Rattle.field.specs.Names.{counts_of}
 use Rattle.sheet.specs.Said.{RuleAt, Said, StatedIn}

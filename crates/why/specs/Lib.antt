@@ -2,6 +2,7 @@
 pub mod Reason
 pub mod Listed
 pub mod Rising
+pub mod Explained
 pub mod Promise
 pub mod Settled
 pub mod own

@@ -17,6 +17,7 @@ ghost use Rattle.why.specs.own.Writing.{Answered, Lists, PutIf};
 
 use field::Table;
 use reason::Lines;
+use sheet::Refused;
 use store::{Counts, Statement, Store};
 
 // The next statement of a sheet: whether there is one, the number of its line, the place past that line, and the statement.
@@ -37,15 +38,6 @@ impl Paths {
     pub const WORDS: usize = 256;
     // For those of the larger one.
     pub const LARGE_WORDS: usize = 4096;
-}
-
-// What asking why a cell is true gives.
-#[derive(Clone, Copy)]
-pub enum Explained {
-    // How many lines there are in all.
-    Lines(usize),
-    // The line and the number of refusal; line 0 is the whole sheet, and the line of 24.
-    Refused(usize, usize),
 }
 
 // Puts a line's number into the list at the place i, if `on` and if the list reaches so far; the place after it.
@@ -111,28 +103,28 @@ fn answer(
     table: &mut [u64],
     cell: Statement,
     room: &mut [u32],
-) -> Explained
+) -> Result<usize, Refused>
     requires { (number_count (width_of words.old) ≤ length names.old) × Lent (width_of words.old) table.old }
     ensures { Explains sheet.now words.old words.new (cell_of cell) room.old room.new result }
 {
     if !store::size::long(words) {
-        return Explained::Refused(0, 1);
+        return Err(Refused { line: 0, why: 1 });
     }
     let at = store::size::layout_of(words);
     let e = sheet::sheets::fill(sheet, words, at, names);
     if e.why != 0 {
-        return Explained::Refused(e.line, e.why);
+        return Err(Refused { line: e.line, why: e.why });
     }
     let kept = e.kept;
     let counts = kept.counts;
     if !store::look::told(words, at, counts, cell) {
-        return Explained::Refused(0, 24);
+        return Err(Refused { line: 0, why: 24 });
     }
-    Explained::Lines(list(sheet, names, counts, cell, table, at.width, room))
+    Ok(list(sheet, names, counts, cell, table, at.width, room))
 }
 
 // The same with a lent store that may be the larger one. A list of no place is answered as one of one place: a function that calls itself keeps its words off its caller's stack.
-fn explain_large(sheet: &[u8], words: &mut [u64], cell: Statement, room: &mut [u32]) -> Explained
+fn explain_large(sheet: &[u8], words: &mut [u64], cell: Statement, room: &mut [u32]) -> Result<usize, Refused>
     ensures { Explains sheet.now words.old words.new (cell_of cell) room.old room.new result }
 {
     if room.len() == 0 {
@@ -146,7 +138,7 @@ fn explain_large(sheet: &[u8], words: &mut [u64], cell: Statement, room: &mut [u
 
 // Reads a sheet into the lent store, and lists statement lines from which a cell follows, and from no part of them with a line taken out: the first ones as far as the list reaches; says how
 // many they are in all, or why not. The cell is given as the statement that states it.
-pub fn explain(sheet: &[u8], words: &mut [u64], cell: Statement, room: &mut [u32]) -> Explained
+pub fn explain(sheet: &[u8], words: &mut [u64], cell: Statement, room: &mut [u32]) -> Result<usize, Refused>
     ensures { Explains sheet.now words.old words.new (cell_of cell) room.old room.new result }
 {
     if words.len() == Store::LARGE_WORDS {

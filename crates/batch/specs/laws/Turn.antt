@@ -8,13 +8,13 @@ use Rattle.store.specs.declared.Counts.{Counts}
 use Rattle.store.specs.Cell.{Cell, Within}
 use Rattle.store.specs.Layout.{ClosedStore, Sized, size, width_of}
 use Rattle.store.specs.laws.Width.{width_same}
-use Rattle.closure.specs.declared.Answer.TheVariants.{Cells, Refused}
+use Rattle.std.specs.Prelude.{Err, Ok}
 use Rattle.closure.specs.declared.Refusal.{Refusal}
 use Rattle.closure.specs.declared.Refusal.TheVariants.{Number}
-use Rattle.closure.specs.Refusal.{AddFault, number}
+use Rattle.closure.specs.Refusal.{AddFault, Answer, number}
 use Rattle.closure.specs.Promise.{Adds, Included}
 use Rattle.closure.specs.Promise.Adds.{refused, added}
-use Rattle.closure.specs.laws.Refusals.{add_none, add-refused-4}
+use Rattle.closure.specs.laws.Refusals.{add_none, add-refused-4, closed-sized}
 use Rattle.batch.specs.Codes.{AddCode, code_of}
 use Rattle.batch.specs.Promise.{AddsAll, InTurn, cell_numbered}
 use Rattle.batch.specs.Promise.InTurn.{none, more}
@@ -22,25 +22,30 @@ use Rattle.batch.specs.own.Turn.{Answered, Filled, Turn}
 
 -- ---- one statement
 
-closed-sized : {W : ℕ} {n : Counts} {s : List ℕ} → ClosedStore W n s → Sized W n s
-closed-sized k = record { long = k.long; fits = k.fits }
-
 -- a number that is not below its count
-pub turn-refused : {n : Counts} {c : Cell} {s : List ℕ} {r : ℤ} → ClosedStore (width_of s) n s → ¬ (Within n c) → r ≡ code_of (Refused Number) → Turn n c s s r
+pub turn-refused : {n : Counts} {c : Cell} {s : List ℕ} {r : ℤ} → ClosedStore (width_of s) n s → ¬ (Within n c) → r ≡ code_of (Err Number) → Turn n c s s r
 turn-refused k w e = record {
-  code = record { answer = Refused Number; adds = refused {k = Number} (add-refused-4 (closed-sized k) k w) refl; code = e };
+  code = record { answer = Err Number; adds = refused {k = Number} (add-refused-4 (closed-sized k) k w) refl; code = e };
   closed = k;
 }
 
 -- a statement that is taken
-pub taken-adds : {n : Counts} {c : Cell} {s t : List ℕ} {m : ℕ} → ClosedStore (width_of s) n s → Within n c → Included (width_of s) n c s t m → Adds (width_of s) n c s t (Cells m)
+pub taken-adds : {n : Counts} {c : Cell} {s t : List ℕ} {m : ℕ} → ClosedStore (width_of s) n s → Within n c → Included (width_of s) n c s t m → Adds (width_of s) n c s t (Ok m)
 taken-adds k w x = added (add_none (closed-sized k) k w) x
 
-pub turn-taken : {n : Counts} {c : Cell} {s t : List ℕ} {m : ℕ} {r : ℤ} → ClosedStore (width_of s) n s → Within n c → Included (width_of s) n c s t m → r ≡ code_of (Cells m) → Turn n c s t r
+pub turn-taken : {n : Counts} {c : Cell} {s t : List ℕ} {m : ℕ} {r : ℤ} → ClosedStore (width_of s) n s → Within n c → Included (width_of s) n c s t m → r ≡ code_of (Ok m) → Turn n c s t r
 turn-taken {m = m} k w x e = record {
-  code = record { answer = Cells m; adds = taken-adds k w x; code = e };
+  code = record { answer = Ok m; adds = taken-adds k w x; code = e };
   closed = x.keeps.store;
 }
+
+-- a statement that is taken or refused
+pub turn-of : {n : Counts} {c : Cell} {s t : List ℕ} {a : Answer} {r : ℤ} → ClosedStore (width_of s) n s → Adds (width_of s) n c s t a → r ≡ code_of a → Turn n c s t r
+turn-of {n} {s = s} k (refused {k = j} l e) f = record {
+  code = record { answer = Err j; adds = refused l e; code = f };
+  closed = subst (λ (u : List ℕ). ClosedStore (width_of s) n u) (sym e) k;
+}
+turn-of k (added {m = m} f x) e = record { code = record { answer = Ok m; adds = added f x; code = e }; closed = x.keeps.store }
 
 -- the same answer and the same cell, written otherwise
 pub turn_at : {n : Counts} {c d : Cell} {s t : List ℕ} {r q : ℤ} → c ≡ d → r ≡ q → Turn n c s t r → Turn n d s t q
@@ -104,11 +109,11 @@ filled_at e d = rw (← e) d
 
 -- where every statement is refused alike, nothing changes
 refused-turns : {n : Counts} {s : List ℕ} {a : List ℤ} (j : Refusal) (xs : List ℕ) (k : ℕ) → ((c : Cell) → Lowest (AddFault (width_of s) n c s) (number j)) → Words 64 s
-    → ((i : ℕ) → i < k → get_or a i (pos 0) ≡ code_of (Refused j)) → InTurn n xs a s k s
+    → ((i : ℕ) → i < k → get_or a i (pos 0) ≡ code_of (Err j)) → InTurn n xs a s k s
 refused-turns j xs zero f w e = none
 refused-turns j xs (suc k) f w e =
-    more (refused-turns j xs k f w (λ i l. e i (omega arith))) (record { answer = Refused j; adds = refused {k = j} (f (cell_numbered xs k)) refl; code = e k (omega arith) }) w
+    more (refused-turns j xs k f w (λ i l. e i (omega arith))) (record { answer = Err j; adds = refused {k = j} (f (cell_numbered xs k)) refl; code = e k (omega arith) }) w
 
 pub all-refused : {n : Counts} {s xs : List ℕ} {z a : List ℤ} {k : ℕ} {r : ℤ} (j : Refusal) → ((c : Cell) → Lowest (AddFault (width_of s) n c s) (number j)) → Words 64 s → k ≡ min (length xs / 4) (length z)
-    → Filled r k z a → r ≡ code_of (Refused j) → AddsAll n xs z a s s k
+    → Filled r k z a → r ≡ code_of (Err j) → AddsAll n xs z a s s k
 all-refused {xs = xs} {k = k} j f w t d e = record { taken = t; added = refused-turns j xs k f w (λ i l. d.first i l ∙ e); long = d.long; past = d.past }

@@ -14,11 +14,11 @@ use Rattle.rule.specs.declared.Head.{Head}
 use Rattle.rule.specs.declared.Head.TheVariants.{Sub, RoleSub, Chain, Ref, Irr, Dis, In, Rel, NoRel, Same, Differ}
 use Rattle.breach.specs.declared.Plan.{Plan}
 use Rattle.rule.specs.declared.Rule.{Rule}
-use Rattle.rule.specs.declared.Second.{Second}
+use Rattle.rule.specs.Second.{Second}
 use Rattle.rule.specs.declared.Slot.{Slot}
 use Rattle.rule.specs.Breaks.{Breaks, BreaksAlone, BreaksPair}
 use Rattle.breach.specs.own.Plan.{BreaksBy, PlaceBreaks, PlaceIf, PlanBreaks, Planned, RootRow, is_pair, is_sub, left_root, place_of, right_root, second_at, second_if}
-use Rattle.rule.specs.declared.Second.TheVariants as second
+use Rattle.std.specs.Prelude.{None, Some}
 
 -- ---- the row of x
 
@@ -124,20 +124,20 @@ module _ (C : Cell → Type 0) (n : Counts) (p : Plan) where
   -- what breaks the rule has its place
   pub breaks-second : (x : ℕ) (s : Second) → PlanBreaks C n p x s → s ≡ second_at p.head (place_of s)
   unfolding PlanBreaks
-  breaks-second x second.None b = ap (λ (t : Bool). second_if t 0) (sym (alone-only C (RowHas p.left) (RowHas p.right) p.head x b.1))
-  breaks-second x (second.Item y) b = ap (λ (t : Bool). second_if t y.0) (sym (pair-only C n p.head x y.0 b.2))
+  breaks-second x None b = ap (λ (t : Bool). second_if t 0) (sym (alone-only C (RowHas p.left) (RowHas p.right) p.head x b.1))
+  breaks-second x (Some y) b = ap (λ (t : Bool). second_if t y.0) (sym (pair-only C n p.head x y.0 b.2))
 
   -- its item is declared
   pub breaks-item : (x : ℕ) (s : Second) → PlanBreaks C n p x s → DeclaredItem n x
   unfolding PlanBreaks
-  breaks-item x second.None b = b.0
-  breaks-item x (second.Item y) b = b.0
+  breaks-item x None b = b.0
+  breaks-item x (Some y) b = b.0
 
   -- and the place is one of a finding
   pub breaks-place : (x : ℕ) (s : Second) → PlanBreaks C n p x s → DeclaredItem n (place_of s) × PlaceBreaks C n p x (place_of s)
   unfolding PlanBreaks
-  breaks-place x second.None b = (omega (arith, b.0), subst (λ (t : Bool). PlaceIf C n p x t 0) (sym (alone-only C (RowHas p.left) (RowHas p.right) p.head x b.1)) (refl, b.1))
-  breaks-place x (second.Item y) b = (b.1, subst (λ (t : Bool). PlaceIf C n p x t y.0) (sym (pair-only C n p.head x y.0 b.2)) b.2)
+  breaks-place x None b = (omega (arith, b.0), subst (λ (t : Bool). PlaceIf C n p x t 0) (sym (alone-only C (RowHas p.left) (RowHas p.right) p.head x b.1)) (refl, b.1))
+  breaks-place x (Some y) b = (b.1, subst (λ (t : Bool). PlaceIf C n p x t y.0) (sym (pair-only C n p.head x y.0 b.2)) b.2)
 
   place-if : (t : Bool) (x y : ℕ) → DeclaredItem n x → DeclaredItem n y → PlaceIf C n p x t y → PlanBreaks C n p x (second_if t y)
   unfolding PlanBreaks
@@ -197,13 +197,13 @@ alone-by C n ns (Differ i j) pl pr x lx ml mr z = z
 -- a rule and its plan are broken by the same
 pub planned-breaks : {C : Cell → Type 0} {n : Counts} {u : Rule} {p : Plan} → Planned C n u p → (x : ℕ) (s : Second) → PlanBreaks C n p x s → Breaks C n u x s
 unfolding PlanBreaks
-planned-breaks {C} {n} {u} {p} d x second.None b =
+planned-breaks {C} {n} {u} {p} d x None b =
     (b.0, by-alone C n u.nodes u.head p.left p.right x b.0 d.left d.right (subst (λ (h : Head). BreaksBy C (RowHas p.left) (RowHas p.right) h x) d.head b.1))
-planned-breaks {C} {n} {u} {p} d x (second.Item y) b = (b.0, b.1, subst (λ (h : Head). BreaksPair C n h x y.0) d.head b.2)
+planned-breaks {C} {n} {u} {p} d x (Some y) b = (b.0, b.1, subst (λ (h : Head). BreaksPair C n h x y.0) d.head b.2)
 
 -- and the other way
 pub breaks-planned : {C : Cell → Type 0} {n : Counts} {u : Rule} {p : Plan} → Planned C n u p → (x : ℕ) (s : Second) → Breaks C n u x s → PlanBreaks C n p x s
 unfolding PlanBreaks
-breaks-planned {C} {n} {u} {p} d x second.None b =
+breaks-planned {C} {n} {u} {p} d x None b =
     (b.0, subst (λ (h : Head). BreaksBy C (RowHas p.left) (RowHas p.right) h x) (sym d.head) (alone-by C n u.nodes u.head p.left p.right x b.0 d.left d.right b.1))
-breaks-planned {C} {n} {u} {p} d x (second.Item y) b = (b.0, b.1, subst (λ (h : Head). BreaksPair C n h x y.0) (sym d.head) b.2)
+breaks-planned {C} {n} {u} {p} d x (Some y) b = (b.0, b.1, subst (λ (h : Head). BreaksPair C n h x y.0) (sym d.head) b.2)

@@ -10,13 +10,13 @@ use Rattle.rule.specs.declared.Head.TheVariants.{Sub, RoleSub, Chain, Ref, Irr, 
 use Rattle.breach.specs.declared.Plan.{Plan}
 use Rattle.breach.specs.declared.Root.{Root}
 use Rattle.rule.specs.declared.Rule.{Rule}
-use Rattle.rule.specs.declared.Second.{Second}
+use Rattle.rule.specs.Second.{Second}
 use Rattle.rule.specs.declared.Slot.{Slot}
 use Rattle.rule.specs.Expr.{expr_of}
 use Rattle.rule.specs.Meaning.{Linked, HoldsOf}
 use Rattle.rule.specs.Breaks.{BreaksPair}
 use Rattle.breach.specs.declared.Root.TheVariants as root
-use Rattle.rule.specs.declared.Second.TheVariants as second
+use Rattle.std.specs.Prelude.{None, Some}
 
 -- whether a rule is broken by pairs
 abbrev pub is_pair : Head → Bool
@@ -48,8 +48,8 @@ is_sub (Differ i i') = false
 
 -- the second item at place y
 abbrev pub second_if : Bool → ℕ → Second
-second_if false y = second.None
-second_if true y = second.Item (record { 0 = y })
+second_if false y = None
+second_if true y = Some (record { 0 = y })
 
 -- the same of a rule
 abbrev pub second_at : Head → ℕ → Second
@@ -57,8 +57,8 @@ second_at h y = second_if (is_pair h) y
 
 -- the place of a second item
 abbrev pub place_of : Second → ℕ
-place_of second.None = 0
-place_of (second.Item y) = y.0
+place_of None = 0
+place_of (Some y) = y.0
 
 -- the left root of a rule
 abbrev pub left_root : Head → Root
@@ -115,8 +115,8 @@ BreaksBy C L R (Differ i i') x = ⊥
 
 -- a plan's rule is broken by x, alone or with a second item, over declared items only
 unfoldable pub PlanBreaks : (Cell → Type 0) → Counts → Plan → ℕ → Second → Type 0
-PlanBreaks C n p x second.None = DeclaredItem n x × BreaksBy C (RowHas p.left) (RowHas p.right) p.head x
-PlanBreaks C n p x (second.Item y) = DeclaredItem n x × DeclaredItem n y.0 × BreaksPair C n p.head x y.0
+PlanBreaks C n p x None = DeclaredItem n x × BreaksBy C (RowHas p.left) (RowHas p.right) p.head x
+PlanBreaks C n p x (Some y) = DeclaredItem n x × DeclaredItem n y.0 × BreaksPair C n p.head x y.0
 
 -- place y in the row of x is one of a finding
 abbrev pub PlaceIf : (Cell → Type 0) → Counts → Plan → ℕ → Bool → ℕ → Type 0

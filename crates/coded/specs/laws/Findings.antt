@@ -10,7 +10,7 @@ use Rattle.rule.specs.declared.Finding.{Finding}
 use Rattle.judge.specs.declared.Prepared.{Prepared}
 use Rattle.rule.specs.declared.Rule.{Rule}
 use Rattle.judge.specs.declared.Search.{Search}
-use Rattle.judge.specs.declared.Total.{Total}
+use Rattle.judge.specs.Total.{Total}
 use Rattle.judge.specs.own.Search.{Met, Opens, Prepares, Stepped}
 use Rattle.judge.specs.own.Search.Opens.{refused as not_opened, judged}
 use Rattle.rule.specs.laws.Findings.{findings-unique as rule-unique}

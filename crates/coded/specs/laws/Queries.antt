@@ -6,8 +6,9 @@ use Rattle.store.specs.Layout.{large}
 use Rattle.rule.specs.declared.Head.{Head}
 use Rattle.rule.specs.declared.Head.TheVariants.{Sub, RoleSub, Chain, Ref, Irr, Dis, In, Rel, NoRel, Same, Differ}
 use Rattle.rule.specs.declared.Rule.{Rule}
-use Rattle.query.specs.declared.Outcome.{Outcome}
-use Rattle.query.specs.declared.Outcome.TheVariants.{Compiled}
+use Rattle.query.specs.Outcome.{Outcome}
+use Rattle.query.specs.declared.Compiled.{Compiled}
+use Rattle.std.specs.Prelude.{Ok}
 use Rattle.body.specs.Translation.{answers_of}
 use Rattle.body.specs.Length.{item_limit}
 use Rattle.query.specs.Promise.{Compiles}
@@ -36,7 +37,7 @@ small-outcome (refused l e) = tt
 small-outcome {u = u} (compiled d e) = (d.short, few-answers u.head)
 
 -- the parts of a small answer
-pub small-parts : {r : Outcome} {items answers : ℕ} → SmallOutcome r → r ≡ Compiled items answers → (items ≤ item_limit) × (answers ≤ 2)
+pub small-parts : {r : Outcome} {q : Compiled} → SmallOutcome r → r ≡ Ok q → (q.items ≤ item_limit) × (q.answers ≤ 2)
 small-parts s e = subst SmallOutcome e s
 
 -- the promise allows one result

@@ -3,12 +3,11 @@ use Rattle.std.specs.Prelude.{◌≡◌, List, ◌++◌, ℕ, suc, ◌*◌, ◌�
 use Rattle.store.specs.Layout as stored
 use Rattle.rule.specs.declared.Finding.{Finding}
 use Rattle.judge.specs.declared.Search.{Search}
-use Rattle.judge.specs.declared.Total.{Total}
-use Rattle.judge.specs.declared.Total.TheVariants.{Count, Refused}
+use Rattle.judge.specs.Total.{Total}
+use Rattle.std.specs.Prelude.{Err, Ok}
 use Rattle.judge.specs.Promise.{number}
 use Rattle.judge.specs.own.Search.{Met}
-use Rattle.query.specs.declared.Outcome.{Outcome}
-use Rattle.query.specs.declared.Outcome.TheVariants as outcome
+use Rattle.query.specs.Outcome.{Outcome}
 use Rattle.body.specs.Length.{item_limit}
 use Rattle.coded.specs.Promise.{pair_words}
 
@@ -26,8 +25,8 @@ pub record Written (s : List ℕ) (first : Search) (n : ℕ) (l m : List ℕ) : 
 
 -- the number of findings, or minus the number of refusal
 abbrev pub total_code : Total → ℤ
-total_code (Count m) = pos m
-total_code (Refused k) = neg_ℤ (pos (number k))
+total_code (Ok m) = pos m
+total_code (Err k) = neg_ℤ (pos (number k))
 
 -- the most items of any store
 abbrev pub most_items : ℕ
@@ -35,10 +34,10 @@ most_items = stored.item_limit stored.large
 
 -- a total of the findings that one rule can have
 abbrev pub SmallTotal : Total → Type 0
-SmallTotal (Count m) = m ≤ most_items * suc most_items
-SmallTotal (Refused k) = Unit {0}
+SmallTotal (Ok m) = m ≤ most_items * suc most_items
+SmallTotal (Err k) = Unit {0}
 
 -- an answer of compiling of the size that a query can have
 abbrev pub SmallOutcome : Outcome → Type 0
-SmallOutcome (outcome.Compiled items answers) = (items ≤ item_limit) × (answers ≤ 2)
-SmallOutcome (outcome.Refused k) = Unit {0}
+SmallOutcome (Ok c) = (c.items ≤ item_limit) × (c.answers ≤ 2)
+SmallOutcome (Err k) = Unit {0}

@@ -10,7 +10,7 @@ use Rattle.store.specs.Cell.{DeclaredItem}
 use Rattle.store.specs.Layout.{ClosedStore, item_limit, large, size, small, width_of}
 use Rattle.store.specs.laws.Cells.{unique}
 use Rattle.store.specs.laws.Width.{width-large, width-of-small}
-use Rattle.convert.specs.declared.Answer.TheVariants.{Cells, Refused}
+use Rattle.std.specs.Prelude.{Err, Ok}
 use Rattle.convert.specs.declared.Refusal.{Refusal}
 use Rattle.convert.specs.Promise.{Conversion, ConvertFault, Converts, Moved, NoPlace, Pair, other_width}
 use Rattle.convert.specs.Promise.Converts.{refused, moved}
@@ -41,7 +41,7 @@ module _ {n : Counts} {s u w : List ℕ} (k : ClosedStore (width_of s) n s) (a :
 
 -- ---- one by one
 
-left-closed : {n : Counts} {s t u : List ℕ} {m : ℕ} → Converts n s t u (Cells m) → ClosedStore (other_width (width_of s)) n u
+left-closed : {n : Counts} {s t u : List ℕ} {m : ℕ} → Converts n s t u (Ok m) → ClosedStore (other_width (width_of s)) n u
 left-closed (moved f m x) = moved-closed (none-closed f) (none-fits f) m
 
 there : {n : Counts} {s t : List ℕ} → ClosedStore small n s → length t ≡ size large → NoneApplies (ConvertFault n s t)
@@ -62,13 +62,13 @@ module _ {n : Counts} {s t : List ℕ} (k : ClosedStore large n s) (l : length t
       placed f a d (yes x) = x
       placed f a d (no x) = absurd (f 26 (back-refused (record { item = a; declared = d; over = omega arith })).applies)
 
-again : {n : Counts} {s t u v : List ℕ} {m : ℕ} → Converts n s t u (Cells m) → length v ≡ length s → NoneApplies (ConvertFault n u v)
+again : {n : Counts} {s t u v : List ℕ} {m : ℕ} → Converts n s t u (Ok m) → length v ≡ length s → NoneApplies (ConvertFault n u v)
 again {s = s} {u = u} (moved f m x) l =
     let e = other_width-long s u m.long in
     let k = none-closed f in
     possible e (ap other_width e ∙ other-other s) (moved-closed k (none-fits f) m) (l ∙ k.long) (λ p. omega (arith, place-over p, k.fits.items))
 
-same-words : {n : Counts} {s t u v w : List ℕ} {m k : ℕ} → Words 64 s → Words 64 w → Converts n s t u (Cells m) → Converts n u v w (Cells k) → (w ≡ s) × (k ≡ m)
+same-words : {n : Counts} {s t u v w : List ℕ} {m k : ℕ} → Words 64 s → Words 64 w → Converts n s t u (Ok m) → Converts n u v w (Ok k) → (w ≡ s) × (k ≡ m)
 same-words {n} {s} {u = u} ws ww (moved f m x) (moved g l y) =
     let k = none-closed f in
     let c = moved-closed k (none-fits f) m in
@@ -77,7 +77,7 @@ same-words {n} {s} {u = u} ws ww (moved f m x) (moved g l y) =
       number-unique (number-iff (λ d h. (m.cells d).1 (rw e at h)) (λ d h. rw e ((m.cells d).0 h)) y) x,
     )
 
-untouched : {n : Counts} {s t u : List ℕ} {k : Refusal} → Converts n s t u (Refused k) → u ≡ t
+untouched : {n : Counts} {s t u : List ℕ} {k : Refusal} → Converts n s t u (Err k) → u ≡ t
 untouched (refused a e) = e
 
 -- all of it

@@ -13,8 +13,8 @@ use Rattle.store.specs.laws.Cells.{unique}
 use Rattle.store.specs.laws.Least.{obeys-iff}
 use Rattle.convert.specs.declared.Refusal.{Refusal}
 use Rattle.convert.specs.declared.Refusal.TheVariants.{Size, NotClosed, TooMany}
-use Rattle.convert.specs.declared.Answer.{Answer}
-use Rattle.convert.specs.declared.Answer.TheVariants.{Cells, Refused}
+use Rattle.convert.specs.Promise.{Answer}
+use Rattle.std.specs.Prelude.{Err, Ok}
 use Rattle.convert.specs.Promise.{ConvertFault, Converts, Moved, NoPlace, Pair, number, other_width}
 use Rattle.convert.specs.Promise.Converts.{refused, moved}
 use Rattle.convert.specs.Promise.ConvertFault.{wrong_size, not-closed, too_many}
@@ -101,12 +101,12 @@ moved-closed k f m = record {
 
 -- a conversion allows one result
 pub converts-unique : {n : Counts} {s t u v : List ℕ} {r q : Answer} → Words 64 u → Words 64 v → Converts n s t u r → Converts n s t v q → (u ≡ v) × (r ≡ q)
-converts-unique wu wv (refused {k = j} a e) (refused {k = k} b e') = (e ∙ sym e', ap Refused (number-one j k (lowest-unique a b)))
+converts-unique wu wv (refused {k = j} a e) (refused {k = k} b e') = (e ∙ sym e', ap Err (number-one j k (lowest-unique a b)))
 converts-unique wu wv (refused a e) (moved b m x) = absurd (lowest-none a b)
 converts-unique wu wv (moved b m x) (refused a e) = absurd (lowest-none a b)
 converts-unique wu wv (moved a m x) (moved b l y) =
     let k = none-closed a in
     let f = none-fits a in (
       unique (moved-closed k f m) (moved-closed k f l) wu wv (λ c h. (l.cells c).0 ((m.cells c).1 h)) (λ c h. (m.cells c).0 ((l.cells c).1 h)),
-      ap Cells (number-unique x y),
+      ap Ok (number-unique x y),
     )

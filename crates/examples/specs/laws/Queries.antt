@@ -8,8 +8,9 @@ use Rattle.store.specs.declared.Counts.{Counts}
 use Rattle.store.specs.Layout.{large}
 use Rattle.rule.specs.declared.Rule.{Rule}
 use Rattle.rule.specs.Form.{CountFits, NodeWithin, RuleWithin, UsesLater, WellFormed, node_at, root_uses, uses_below}
-use Rattle.query.specs.declared.Outcome.{Outcome}
-use Rattle.query.specs.declared.Outcome.TheVariants.{Compiled, Refused}
+use Rattle.query.specs.Outcome.{Outcome}
+use Rattle.query.specs.Outcome.{compiled_as}
+use Rattle.std.specs.Prelude.{Err}
 use Rattle.query.specs.declared.QueryRefusal.TheVariants.{Room}
 use Rattle.body.specs.Body.{size}
 use Rattle.body.specs.Length.{length_of, head_length}
@@ -68,10 +69,10 @@ module _ {n : Counts} {u : Rule} (b : BladesFit n u) where
       head-length u.len u.nodes u.head form.head ∙ ap (head_length u.nodes) b.rule.head
       ∙ ap₂ (λ c d. length_of c + 2 + length_of d) (expr_left 1 u b.rule) (expr-right 1 u b.rule)
 
-  pub five-items : {before after : List ℕ} {r : Outcome} → 20 ≤ length before → Compiles large n u before after r → r ≡ Compiled 5 1
+  pub five-items : {before after : List ℕ} {r : Outcome} → 20 ≤ length before → Compiles large n u before after r → r ≡ compiled_as 5 1
   five-items l c =
       (compiles-unique c (compiled (record { fits = b.fits; form = form; within = within; short = omega (arith, five); enough = omega (arith, five) }) refl)).0
-      ∙ ap₂ Compiled five (ap answers_of b.rule.head)
+      ∙ ap₂ compiled_as five (ap answers_of b.rule.head)
 
-  pub five-items-room : {before after : List ℕ} {r : Outcome} → length before < 20 → Compiles large n u before after r → r ≡ Refused Room
+  pub five-items-room : {before after : List ℕ} {r : Outcome} → length before < 20 → Compiles large n u before after r → r ≡ Err Room
   five-items-room l c = (compiles-unique c (refused (refused-6 b.fits form within (omega (arith, five)) (omega (arith, five))) refl)).0

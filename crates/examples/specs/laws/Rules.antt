@@ -21,8 +21,8 @@ use Rattle.closure.specs.Lines.Stated.{stated}
 use Rattle.store.specs.laws.Least.{least}
 use Rattle.rule.specs.declared.Finding.{Finding}
 use Rattle.rule.specs.declared.Rule.{Rule}
-use Rattle.rule.specs.declared.Second.{Second}
-use Rattle.rule.specs.declared.Second.TheVariants as second
+use Rattle.rule.specs.Second.{Second}
+use Rattle.std.specs.Prelude.{None, Some}
 use Rattle.rule.specs.Breaks.{Breaks}
 use Rattle.rule.specs.Findings.{Findings}
 use Rattle.rule.specs.Meaning.{HoldsOf, Articles, Different, LinkedWay}
@@ -35,17 +35,17 @@ use Rattle.examples.specs.Examples.{IsRef, IsAtLeast, three_items, two_links, sa
 
 module _ (W : ℕ) (n : Counts) (s : List ℕ) (u : Rule) (r : IsRef u) where
   -- a place where `ref` is broken is a declared item alone
-  ref-breaks : (x : ℕ) (t : Second) → Breaks (Holds W n s) n u x t → DeclaredItem n x × (t ≡ second.None)
-  ref-breaks x second.None b = (b.0, refl)
-  ref-breaks x (second.Item y) b = absurd (rw r.head at b.2)
+  ref-breaks : (x : ℕ) (t : Second) → Breaks (Holds W n s) n u x t → DeclaredItem n x × (t ≡ None)
+  ref-breaks x None b = (b.0, refl)
+  ref-breaks x (Some y) b = absurd (rw r.head at b.2)
 
   -- the item 0 alone
   OnlyZero : n.items ≡ 1 → ((q a b : ℕ) → ¬ (Holds W n s (Link q a b))) → Number (λ (p : ℕ × Second). Breaks (Holds W n s) n u p.0 p.1) 1
   OnlyZero e none-linked = record {
-    all = (0, second.None) ∷ [];
+    all = (0, None) ∷ [];
     distinct = Distinct-more one_none Distinct-none;
     sound = λ p x. subst (λ (q : ℕ × Second). Breaks (Holds W n s) n u q.0 q.1) (sym (⊎_elim (λ q. q) (λ y. absurd (one_none y)) (one-cases x))) here;
-    whole = λ p b. let h = ref-breaks p.0 p.1 b in subst (λ (q : ℕ × Second). One q ((0, second.None) ∷ [])) (sym (ap₂ {C = ℕ × Second} (λ x t. (x, t)) (omega (arith, h.0)) h.1)) first;
+    whole = λ p b. let h = ref-breaks p.0 p.1 b in subst (λ (q : ℕ × Second). One q ((0, None) ∷ [])) (sym (ap₂ {C = ℕ × Second} (λ x t. (x, t)) (omega (arith, h.0)) h.1)) first;
     count = refl;
   }
     where
@@ -53,7 +53,7 @@ module _ (W : ℕ) (n : Counts) (s : List ℕ) (u : Rule) (r : IsRef u) where
       way false x = none-linked _ _ _ x
       way true x = none-linked _ _ _ x
 
-      here : Breaks (Holds W n s) n u 0 second.None
+      here : Breaks (Holds W n s) n u 0 None
       here = (omega arith, rw r.head (way r.role.inverse))
 
 pub ref-none : {W : ℕ} {n : Counts} {s : List ℕ} {k : ℕ} {u : Rule} {fs : List Finding} → n.items ≡ 0 → IsRef u → Findings (Holds W n s) n k u fs → length fs ≡ 0
@@ -122,18 +122,18 @@ module _ (W : ℕ) (two : ℕ) (lo : 1 ≤ two) (lines : List Statement) (inside
   left-zero x h = ⊎_elim (λ z. z.0) (λ z. absurd (omega (arith, z.1))) (in-model (In x 0) h).1
 
   -- a place where the rule is broken is c alone
-  breaks-zero : (x : ℕ) (t : Second) → Breaks (Holds W three_items s) three_items u x t → (x ≡ 0) × (t ≡ second.None)
+  breaks-zero : (x : ℕ) (t : Second) → Breaks (Holds W three_items s) three_items u x t → (x ≡ 0) × (t ≡ None)
   unfolding HoldsOf
-  breaks-zero x second.None b = let h = rw i.head at b.1 in (left-zero x (rw (expr_left 2 u i) at h.0), refl)
-  breaks-zero x (second.Item y) b = absurd (rw i.head at b.2)
+  breaks-zero x None b = let h = rw i.head at b.1 in (left-zero x (rw (expr_left 2 u i) at h.0), refl)
+  breaks-zero x (Some y) b = absurd (rw i.head at b.2)
 
   -- what the rule asks of c
-  asks : Breaks (Holds W three_items s) three_items u 0 second.None → ¬ (Articles (Holds W three_items s) three_items 2 (λ b. Holds W three_items s (Link 0 0 b) × Holds W three_items s (In b 1)))
+  asks : Breaks (Holds W three_items s) three_items u 0 None → ¬ (Articles (Holds W three_items s) three_items 2 (λ b. Holds W three_items s (Link 0 0 b) × Holds W three_items s (In b 1)))
   unfolding HoldsOf
   asks b a = rw (expr-right 2 u i) at (rw i.head at b.1).1 a
 
   broken : Holds W three_items s (In 0 0) → ¬ (Articles (Holds W three_items s) three_items 2 (λ b. Holds W three_items s (Link 0 0 b) × Holds W three_items s (In b 1)))
-      → Breaks (Holds W three_items s) three_items u 0 second.None
+      → Breaks (Holds W three_items s) three_items u 0 None
   unfolding HoldsOf
   broken h n = (omega arith, rw i.head (rw (expr_left 2 u i) h, rw (expr-right 2 u i) n))
 
@@ -187,7 +187,7 @@ two-articles {W} {s} {u = u} k i f = number-unique (findings-number f) (number-n
     never : (p : ℕ × Second) → ¬ (Breaks (Holds W three_items s) three_items u p.0 p.1)
     never p b =
         let z = breaks-zero W 2 (omega arith) two_links lines s k u i p.0 p.1 b in
-        let e : p ≡ (0, second.None) = ap₂ {C = ℕ × Second} (λ x t. (x, t)) z.0 z.1 in
+        let e : p ≡ (0, None) = ap₂ {C = ℕ × Second} (λ x t. (x, t)) z.0 z.1 in
         asks W 2 (omega arith) two_links lines s k u i (subst (λ (q : ℕ × Second). Breaks (Holds W three_items s) three_items u q.0 q.1) e b) enough
 
 -- d1 and d2 are one article
@@ -195,12 +195,12 @@ pub one-article : {W : ℕ} {s : List ℕ} {k : ℕ} {u : Rule} {fs : List Findi
     → Findings (Holds W three_items s) three_items k u fs → length fs ≡ 1
 unfolding Model class
 one-article {W} {s} {u = u} k i f = number-unique (findings-number f) (record {
-  all = (0, second.None) ∷ [];
+  all = (0, None) ∷ [];
   distinct = Distinct-more one_none Distinct-none;
   sound = λ p x. subst (λ (q : ℕ × Second). Breaks (Holds W three_items s) three_items u q.0 q.1) (sym (⊎_elim (λ q. q) (λ y. absurd (one_none y)) (one-cases x))) here;
   whole = λ p b.
       let z = breaks-zero W 1 (omega arith) (same_links ∷ two_links) lines s k u i p.0 p.1 b in
-      subst (λ (q : ℕ × Second). One q ((0, second.None) ∷ [])) (sym (ap₂ {C = ℕ × Second} (λ x t. (x, t)) z.0 z.1)) first;
+      subst (λ (q : ℕ × Second). One q ((0, None) ∷ [])) (sym (ap₂ {C = ℕ × Second} (λ x t. (x, t)) z.0 z.1)) first;
   count = refl;
 })
   where
@@ -231,7 +231,7 @@ one-article {W} {s} {u = u} k i f = number-unique (findings-number f) (record {
     pair (x ∷ []) e g d = absurd (omega arith)
     pair (x ∷ y ∷ xs) e g (more a d) = let p = to-d x (g x first) in let q = to-d y (g y (later first)) in a y first (linked-same x y p.0 p.1 q.0 q.1)
 
-    here : Breaks (Holds W three_items s) three_items u 0 second.None
+    here : Breaks (Holds W three_items s) three_items u 0 None
     here =
         broken W 1 (omega arith) (same_links ∷ two_links) lines s k u i (k.whole (In 0 0) (given (stated (later first))))
         (λ a. pair a.items a.count (λ b o. (a.each b o).1.0) a.different)

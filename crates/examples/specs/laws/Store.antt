@@ -11,8 +11,8 @@ use Rattle.logic.specs.laws.Lowest.{lowest-none}
 use Rattle.logic.specs.laws.Number.{number-none, number-unique, one-cases, one_none}
 use Rattle.row.specs.Bit.{Words}
 use Rattle.store.specs.declared.Counts.{Counts}
-use Rattle.closure.specs.declared.Answer.{Answer}
-use Rattle.closure.specs.declared.Answer.TheVariants.{Cells}
+use Rattle.closure.specs.Refusal.{Answer}
+use Rattle.std.specs.Prelude.{Ok}
 use Rattle.store.specs.Cell.{Cell, Nothing, With, Follows, DeclaredItem}
 use Rattle.store.specs.Cell.Cell.{Same, Under, RoleUnder, In, Link}
 use Rattle.store.specs.Cell.Follows.{given, same-sym}
@@ -27,7 +27,7 @@ use Rattle.closure.specs.laws.Refusals.{adds-unique, add_none}
 use Rattle.examples.specs.Examples.{two_items}
 
 -- a cell that holds adds nothing
-adds-nothing : {W : ℕ} {n : Counts} {c : Cell} {s : List ℕ} → ClosedStore W n s → Holds W n s c → Adds W n c s s (Cells 0)
+adds-nothing : {W : ℕ} {n : Counts} {c : Cell} {s : List ℕ} → ClosedStore W n s → Holds W n s c → Adds W n c s s (Ok 0)
 adds-nothing {W} {n} {c} {s} k h = added (add_none (record { long = k.long; fits = k.fits }) k h.within) (record { keeps = keeps; count = number-none (λ d x. x.before x.now) })
   where
     only : (d : Cell) → With (Holds W n s) c d → Follows n (Holds W n s) d
@@ -37,7 +37,7 @@ adds-nothing {W} {n} {c} {s} k h = added (add_none (record { long = k.long; fits
     keeps : Keeps W n (With (Holds W n s) c) s
     keeps = record { store = k; sound = λ d x. given (old x); whole = λ d x. closed-has k.closed (follows-all only x) }
 
-pub same-itself : {W : ℕ} {n : Counts} {s t : List ℕ} {a : ℕ} {r : Answer} → DeclaredItem n a → Words 64 s → Words 64 t → Keeps W n Nothing s → Adds W n (Same a a) s t r → r ≡ Cells 0
+pub same-itself : {W : ℕ} {n : Counts} {s t : List ℕ} {a : ℕ} {r : Answer} → DeclaredItem n a → Words 64 s → Words 64 t → Keeps W n Nothing s → Adds W n (Same a a) s t r → r ≡ Ok 0
 same-itself h ws wt k x = (adds-unique wt ws x (adds-nothing k.store (k.store.closed.obeys.same_refl h))).1
 
 -- the two cells that are new
@@ -90,6 +90,6 @@ module _ {W : ℕ} {s t : List ℕ} (k : Keeps W two_items Nothing s) (l : Keeps
       apart : ¬ (One (Same 0 1) (Same 1 0 ∷ []))
       apart x = ⊎_elim unlike one_none (one-cases x)
 
-pub same-two : {W : ℕ} {s t : List ℕ} {r : Answer} → Keeps W two_items Nothing s → Adds W two_items (Same 0 1) s t r → r ≡ Cells 2
+pub same-two : {W : ℕ} {s t : List ℕ} {r : Answer} → Keeps W two_items Nothing s → Adds W two_items (Same 0 1) s t r → r ≡ Ok 2
 same-two k (refused l e) = absurd (lowest-none l (add_none (record { long = k.store.long; fits = k.store.fits }) k.store (omega arith, omega arith)))
-same-two k (added f x) = ap Cells (number-unique x.count (two k x.keeps))
+same-two k (added f x) = ap Ok (number-unique x.count (two k x.keeps))

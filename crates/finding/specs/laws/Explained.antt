@@ -8,8 +8,9 @@ use Rattle.sheet.specs.declared.Ended.{Ended}
 use Rattle.field.specs.Names.{counts_of}
 use Rattle.sheet.specs.own.Stands.{Opens, kept_table}
 use Rattle.sheet.specs.laws.Count.{opens-held, opens-outcome, whole-refused}
-use Rattle.finding.specs.declared.FindingExplained.{FindingExplained}
-use Rattle.finding.specs.declared.FindingExplained.TheVariants.{Lines, Refused}
+use Rattle.finding.specs.Explained.{FindingExplained, explained_by}
+use Rattle.sheet.specs.Reading.{refusal_as}
+use Rattle.std.specs.Prelude.{Err}
 use Rattle.finding.specs.declared.Sides.{Sides}
 use Rattle.finding.specs.Finding.{BrokenSub, ExplainsFinding, concept}
 use Rattle.finding.specs.own.Sides.{Breaking, BrokenIf}
@@ -24,7 +25,7 @@ use Rattle.finding.specs.laws.Finding.{broken-in}
 
 module _ {sheet s numbers u : List ℕ} {e : Ended} (w : Opens (width_of s) sheet s numbers u e) (long : length s ≡ size (width_of s)) (k a : ℕ) (before : List ℕ) where
   -- a refused sheet
-  pub finding-refused : (e.why ≡ 0 → ⊥) → ExplainsFinding sheet s u k a before before (Refused e.line e.why)
+  pub finding-refused : (e.why ≡ 0 → ⊥) → ExplainsFinding sheet s u k a before before (Err (refusal_as e.line e.why))
   finding-refused z = refused (whole-refused refl long w z).reads refl
 
   -- an accepted one
@@ -37,7 +38,7 @@ module _ {sheet s numbers u : List ℕ} {e : Ended} (w : Opens (width_of s) shee
     here = subst (λ (n : Counts). BrokenIf (width_of s) r.named n w.said u k a r) (sym counts-are) (b (width_of s) w.said (opens-outcome w z) w.names)
 
     -- the rule is not there, of another kind or not broken
-    pub finding-not : r.named ≡ false → ExplainsFinding sheet s u k a before before (Refused 0 25)
+    pub finding-not : r.named ≡ false → ExplainsFinding sheet s u k a before before (Err (refusal_as 0 25))
     finding-not f = not-broken long (opens-outcome w z) (opens-held w z) (subst (λ (t : Bool). BrokenIf (width_of s) t (counts_of w.said.names) w.said u k a r) f here) refl
 
     module _ (t : r.named ≡ true) where
@@ -49,11 +50,11 @@ module _ {sheet s numbers u : List ℕ} {e : Ended} (w : Opens (width_of s) shee
       finding-asked = explains-asked w long (In a r.left) before z (subst (λ (n : Counts). Holds (width_of s) n u (In a r.left)) counts-are (broken-in broken-here))
 
       -- it is found
-      pub finding-found : {after : List ℕ} {m : ℕ} → Answered sheet (kept_table numbers e) (In a r.left) before after m → ExplainsFinding sheet s u k a before after (Lines m (concept r.right))
+      pub finding-found : {after : List ℕ} {m : ℕ} → Answered sheet (kept_table numbers e) (In a r.left) before after m → ExplainsFinding sheet s u k a before after (explained_by m (concept r.right))
       finding-found {after} h =
           let o = opens-outcome w z in
           let y = h (width_of s) w.said o w.names in
-          subst (λ (j : ℕ). ExplainsFinding sheet s u k a before after (Lines j (concept r.right))) (sym y.total)
+          subst (λ (j : ℕ). ExplainsFinding sheet s u k a before after (explained_by j (concept r.right))) (sym y.total)
           (found long o (opens-held w z) broken-here (subst (λ (n : Counts). Reason n (In a r.left) w.said.statements y.lines) (sym counts-are) y.reason) y.listed)
 
 -- a list of no place gets what another does

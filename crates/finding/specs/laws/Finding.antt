@@ -11,7 +11,7 @@ use Rattle.rule.specs.declared.Head.TheVariants as head
 use Rattle.rule.specs.declared.Node.{Node}
 use Rattle.rule.specs.declared.Node.TheVariants as node
 use Rattle.rule.specs.declared.Rule.{Rule}
-use Rattle.rule.specs.declared.Second.TheVariants as second
+use Rattle.std.specs.Prelude.{None}
 use Rattle.rule.specs.declared.Slot.{Slot}
 use Rattle.rule.specs.Breaks.{Breaks, BreaksAlone}
 use Rattle.rule.specs.Expr.{Expr, build, expr_at, expr_of}
@@ -109,23 +109,23 @@ module _ {W : ℕ} {n : Counts} {x : Said} {s : List ℕ} {k a : ℕ} where
       omega (arith, w.place, ap length w.is, length-append w.before (record { line = w.line; rule = z.rule } ∷ w.after))
 
   module _ {u : Rule} (p : RuleAt x k u) where
-    same-rule : {c d : ℕ} (z : BrokenSub W n x s k a c d) → SubOfNames u c d × Breaks (Holds W n s) n u a second.None
+    same-rule : {c d : ℕ} (z : BrokenSub W n x s k a c d) → SubOfNames u c d × Breaks (Holds W n s) n u a None
     same-rule {c} {d} z =
         let e = rule-unique z.there p in
-        (subst (λ (v : Rule). SubOfNames v c d) e z.names, subst (λ (v : Rule). Breaks (Holds W n s) n v a second.None) e z.broken)
+        (subst (λ (v : Rule). SubOfNames v c d) e z.names, subst (λ (v : Rule). Breaks (Holds W n s) n v a None) e z.broken)
 
     -- it is of another kind
     pub broken-other : ((c d : ℕ) → ¬ (SubOfNames u c d)) → (c d : ℕ) → ¬ (BrokenSub W n x s k a c d)
     broken-other f c d z = f c d (same-rule z).0
 
     module _ {l r : ℕ} (q : SubOfNames u l r) where
-      sub-broken : Breaks (Holds W n s) n u a second.None → Holds W n s (In a l) × ¬ (Holds W n s (In a r))
+      sub-broken : Breaks (Holds W n s) n u a None → Holds W n s (In a l) × ¬ (Holds W n s (In a r))
       unfolding HoldsOf
       sub-broken b =
           let z : BreaksAlone (Holds W n s) n u.nodes (head.Sub q.left q.right) a = subst (λ (h : Head). BreaksAlone (Holds W n s) n u.nodes h a) q.head b.1 in
           (subst (λ (e : Expr). HoldsOf (Holds W n s) n e a) q.first z.0, λ h. z.1 (subst (λ (e : Expr). HoldsOf (Holds W n s) n e a) (sym q.second) h))
 
-      broken-sub : Holds W n s (In a l) → ¬ (Holds W n s (In a r)) → Breaks (Holds W n s) n u a second.None
+      broken-sub : Holds W n s (In a l) → ¬ (Holds W n s (In a r)) → Breaks (Holds W n s) n u a None
       unfolding HoldsOf
       broken-sub h g = (
         h.within.0,

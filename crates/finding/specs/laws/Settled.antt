@@ -11,7 +11,7 @@ use Rattle.sheet.specs.Said.Outcome.{accepted}
 use Rattle.sheet.specs.laws.Pass.{said_of}
 use Rattle.sheet.specs.laws.Unique.{reads-unique}
 use Rattle.why.specs.laws.Settled.{not-refused, reading-same, same_store}
-use Rattle.finding.specs.declared.FindingExplained.{FindingExplained}
+use Rattle.finding.specs.Explained.{FindingExplained}
 use Rattle.finding.specs.Finding.{BrokenSub, ExplainsFinding, SubOfNames, concept}
 use Rattle.finding.specs.Finding.ExplainsFinding.{refused as refused_finding, not-broken, found as found_finding}
 use Rattle.finding.specs.Settled.{SameFinding}

@@ -15,7 +15,7 @@ use Rattle.store.specs.Cell.{Cell, DeclaredItem}
 use Rattle.rule.specs.declared.Finding.{Finding}
 use Rattle.rule.specs.declared.Head.{Head}
 use Rattle.breach.specs.declared.Plan.{Plan}
-use Rattle.rule.specs.declared.Second.{Second}
+use Rattle.rule.specs.Second.{Second}
 use Rattle.rule.specs.Findings.{Before, SecondBefore, finding_of}
 use Rattle.links.specs.own.Reach.{ItemRow}
 use Rattle.breach.specs.own.Plan.{BreaksBy, PlaceBreaks, PlaceIf, PlanBreaks, is_pair, place_of, second_at, second_if}

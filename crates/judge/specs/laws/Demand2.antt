@@ -3,7 +3,7 @@ use Rattle.std.specs.Prelude.{refl, List, ℕ}
 use Rattle.store.specs.declared.Counts.{Counts}
 use Rattle.rule.specs.declared.Finding.{Finding}
 use Rattle.rule.specs.declared.Rule.{Rule}
-use Rattle.judge.specs.declared.Total.{Total}
+use Rattle.judge.specs.Total.{Total}
 use Rattle.rule.specs.Findings.{finding_of}
 use Rattle.judge.specs.Promise.{Judged, Lists, number}
 use Rattle.judge.specs.Promise.Lists.{refused, listed}

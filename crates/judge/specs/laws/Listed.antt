@@ -6,18 +6,18 @@ use Rattle.store.specs.declared.Counts.{Counts}
 use Rattle.store.specs.Cell.{Cell}
 use Rattle.rule.specs.declared.Finding.{Finding}
 use Rattle.rule.specs.declared.Rule.{Rule}
-use Rattle.rule.specs.declared.Second.{Second}
+use Rattle.rule.specs.Second.{Second}
 use Rattle.rule.specs.Breaks.{Breaks}
 use Rattle.rule.specs.Findings.{Before, Findings, InOrder, SecondBefore, finding_of}
 use Rattle.rule.specs.Findings.InOrder.{more}
 use Rattle.judge.specs.own.Cursor.{Listed}
-use Rattle.rule.specs.declared.Second.TheVariants as second
+use Rattle.std.specs.Prelude.{None, Some}
 
 -- ---- the order
 
 second-self : (s : Second) → SecondBefore s s → ⊥
-second-self second.None x = x
-second-self (second.Item i) x = omega arith
+second-self None x = x
+second-self (Some i) x = omega arith
 
 before_self : (f : Finding) → Before f f → ⊥
 before_self f (inl x) = omega arith

@@ -9,8 +9,8 @@ use Rattle.rule.specs.declared.Finding.{Finding}
 use Rattle.rule.specs.declared.Rule.{Rule}
 use Rattle.judge.specs.declared.RuleRefusal.{RuleRefusal}
 use Rattle.judge.specs.declared.RuleRefusal.TheVariants.{Size, NotClosed, Malformed, Number}
-use Rattle.judge.specs.declared.Total.{Total}
-use Rattle.judge.specs.declared.Total.TheVariants.{Count, Refused}
+use Rattle.judge.specs.Total.{Total}
+use Rattle.std.specs.Prelude.{Err, Ok}
 use Rattle.rule.specs.Form.{WellFormed, RuleWithin}
 use Rattle.judge.specs.Promise.{filled, number, RuleFault, Judged, Totals, Lists}
 use Rattle.judge.specs.Promise.RuleFault.{wrong_size, not-closed, malformed, wrong-number}
@@ -87,19 +87,19 @@ number-one Number Number e = refl
 
 -- the total allows one result
 pub totals-unique : {W : ℕ} {n : Counts} {u : Rule} {s : List ℕ} {r r' : Total} → Totals W n u s r → Totals W n u s r' → r ≡ r'
-totals-unique (total-refused {k = j} a) (total-refused {k = k} b) = ap Refused (number-one j k (lowest-unique a b))
+totals-unique (total-refused {k = j} a) (total-refused {k = k} b) = ap Err (number-one j k (lowest-unique a b))
 totals-unique (total-refused a) (counted d f) = absurd (judged-lowest d a)
 totals-unique (counted d f) (total-refused a) = absurd (judged-lowest d a)
-totals-unique (counted d f) (counted e g) = ap (λ (fs : List Finding). Count (length fs)) (findings-unique f g)
+totals-unique (counted d f) (counted e g) = ap (λ (fs : List Finding). Ok (length fs)) (findings-unique f g)
 
 -- the list of findings allows one result
 pub lists-unique : {W : ℕ} {n : Counts} {k : ℕ} {u : Rule} {s : List ℕ} {before after after' : List Finding} {r r' : Total}
     → Lists W n k u s before after r → Lists W n k u s before after' r' → (after ≡ after') × (r ≡ r')
-lists-unique (list-refused {r = j} a e) (list-refused {r = k} b e') = (e ∙ sym e', ap Refused (number-one j k (lowest-unique a b)))
+lists-unique (list-refused {r = j} a e) (list-refused {r = k} b e') = (e ∙ sym e', ap Err (number-one j k (lowest-unique a b)))
 lists-unique (list-refused a e) (listed d f g) = absurd (judged-lowest d a)
 lists-unique (listed d f g) (list-refused a e) = absurd (judged-lowest d a)
 lists-unique {before = before} (listed d f g) (listed d' f' g') =
     let e = findings-unique f f' in (
       g ∙ ap (λ (fs : List Finding). filled fs before) e ∙ sym g',
-      ap (λ (fs : List Finding). Count (length fs)) e,
+      ap (λ (fs : List Finding). Ok (length fs)) e,
     )

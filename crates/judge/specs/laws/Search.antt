@@ -16,8 +16,8 @@ use Rattle.judge.specs.declared.Prepared.{Prepared}
 use Rattle.rule.specs.declared.Rule.{Rule}
 use Rattle.judge.specs.declared.RuleRefusal.{RuleRefusal}
 use Rattle.judge.specs.declared.Search.{Search}
-use Rattle.judge.specs.declared.Total.{Total}
-use Rattle.judge.specs.declared.Total.TheVariants.{Count}
+use Rattle.judge.specs.Total.{Total}
+use Rattle.std.specs.Prelude.{Ok}
 use Rattle.judge.specs.own.Cursor.{Advances, Begins, PlanBroken}
 use Rattle.rule.specs.Findings.{Findings}
 use Rattle.breach.specs.own.Plan.{Planned}
@@ -69,13 +69,13 @@ met-more ms f = length-append ms (f ∷ []) ∙ add-one (length ms)
 -- a plan, the number of its findings and the cursor at the first are a listing that begins
 pub starts : {s : List ℕ} {at : Layout} {n : Counts} (k : ℕ) {u : Rule} (room : ℕ) {p : Plan} {c : Cursor} {t : ℕ} → Laid at s → ClosedStore at.width n s → Planned (Holds at.width n s) n u p
     → counting.Number (PlanBroken (Holds at.width n s) n p) t → Begins (Holds at.width n s) n p c
-    → Starts s at n k u room (record { answer = Count t; write = min t room; search = search_at c k at n })
+    → Starts s at n k u room (record { answer = Ok t; write = min t room; search = search_at c k at n })
 starts {s} {at} {n} k {u} room {t = t} l m d a b =
     let o = in_order k (number-iff (λ q x. planned-breaks d q.0 q.1 x) (λ q x. breaks-planned d q.0 q.1 x) a) in
     record {
       list = o.list;
       findings = o.findings;
-      answer = ap Count (sym o.count);
+      answer = ap Ok (sym o.count);
       write = ap (λ (i : ℕ). min i room) (sym o.count);
       coming = record { ahead = b.all k o.list (listed-iff (breaks-planned d) (planned-breaks d) (findings-listed o.findings)); here = refl };
       ready = record { laid = l; store = m };

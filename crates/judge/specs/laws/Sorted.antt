@@ -10,22 +10,22 @@ use Rattle.store.specs.Cell.{Cell}
 use Rattle.store.specs.declared.Counts.{Counts}
 use Rattle.rule.specs.declared.Rule.{Rule}
 use Rattle.rule.specs.declared.Finding.{Finding}
-use Rattle.rule.specs.declared.Second.{Second}
+use Rattle.rule.specs.Second.{Second}
 use Rattle.rule.specs.Findings.{SecondBefore, Before, InOrder, finding_of, Findings}
 use Rattle.rule.specs.Findings.InOrder.{none, more}
 use Rattle.rule.specs.Breaks.{Breaks}
-use Rattle.rule.specs.declared.Second.TheVariants as second
+use Rattle.std.specs.Prelude.{None, Some}
 
 -- of two seconds one comes before the other, or they are equal
 second-order : (s t : Second) → SecondBefore s t ⊎ (SecondBefore t s ⊎ (s ≡ t))
-second-order second.None second.None = inr (inr refl)
-second-order second.None (second.Item j) = inl tt
-second-order (second.Item i) second.None = inr (inl tt)
-second-order (second.Item i) (second.Item j) = go (dec_lt i.0 j.0) (ℕ_discrete i.0 j.0)
+second-order None None = inr (inr refl)
+second-order None (Some j) = inl tt
+second-order (Some i) None = inr (inl tt)
+second-order (Some i) (Some j) = go (dec_lt i.0 j.0) (ℕ_discrete i.0 j.0)
   where
-    go : Dec (i.0 < j.0) → Dec (i.0 ≡ j.0) → (i.0 < j.0) ⊎ ((j.0 < i.0) ⊎ (second.Item i ≡ second.Item j))
+    go : Dec (i.0 < j.0) → Dec (i.0 ≡ j.0) → (i.0 < j.0) ⊎ ((j.0 < i.0) ⊎ (Some i ≡ Some j))
     go (yes l) d = inl l
-    go (no l) (yes e) = inr (inr (ap (λ (k : ℕ). second.Item (record { 0 = k })) e))
+    go (no l) (yes e) = inr (inr (ap (λ (k : ℕ). Some (record { 0 = k })) e))
     go (no l) (no e) = inr (inl (omega arith))
 
 -- of two places one comes before the other, or they are equal
@@ -41,12 +41,12 @@ place-order number p q = go (dec_lt p.0 q.0) (ℕ_discrete p.0 q.0)
     go (no l) (no e) = inr (inl (inl (omega arith)))
 
 second-then : (s t v : Second) → SecondBefore s t → SecondBefore t v → SecondBefore s v
-second-then second.None second.None v x y = absurd x
-second-then second.None (second.Item j) second.None x y = y
-second-then second.None (second.Item j) (second.Item k) x y = tt
-second-then (second.Item i) second.None v x y = absurd x
-second-then (second.Item i) (second.Item j) second.None x y = y
-second-then (second.Item i) (second.Item j) (second.Item k) x y = omega arith
+second-then None None v x y = absurd x
+second-then None (Some j) None x y = y
+second-then None (Some j) (Some k) x y = tt
+second-then (Some i) None v x y = absurd x
+second-then (Some i) (Some j) None x y = y
+second-then (Some i) (Some j) (Some k) x y = omega arith
 
 -- one after another
 pub before-then : (f g h : Finding) → Before f g → Before g h → Before f h

@@ -6,7 +6,7 @@ use Rattle.store.specs.declared.Counts.{Counts}
 use Rattle.store.specs.Cell.{Cell, DeclaredItem}
 use Rattle.rule.specs.declared.Finding.{Finding}
 use Rattle.breach.specs.declared.Plan.{Plan}
-use Rattle.rule.specs.declared.Second.{Second}
+use Rattle.rule.specs.Second.{Second}
 use Rattle.rule.specs.Findings.{InOrder, finding_of}
 use Rattle.breach.specs.own.Plan.{PlaceBreaks, PlanBreaks, place_of, second_at}
 use Rattle.judge.specs.declared.Cursor as declared

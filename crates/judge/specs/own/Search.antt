@@ -12,7 +12,7 @@ use Rattle.judge.specs.declared.Prepared.{Prepared}
 use Rattle.rule.specs.declared.Rule.{Rule}
 use Rattle.judge.specs.declared.RuleRefusal.{RuleRefusal}
 use Rattle.judge.specs.declared.Search.{Search}
-use Rattle.judge.specs.declared.Total.TheVariants.{Count, Refused}
+use Rattle.std.specs.Prelude.{Err, Ok}
 use Rattle.judge.specs.own.Cursor.{Ahead, current_of}
 use Rattle.rule.specs.Findings.{Findings}
 use Rattle.judge.specs.Promise.{Judged, RuleFault, number}
@@ -47,8 +47,8 @@ pub data Met (s : List ℕ) (first : Search) : List Finding → Search → Type 
 
 -- how a listing of the rule u begins, in a list of `room` places: refused, with nothing to write; or at the first of all findings
 pub data Opens (s : List ℕ) (n : Counts) (k : ℕ) (u : Rule) (room : ℕ) (p : Prepared) : Type 0 where
-  refused : {r : RuleRefusal} → Lowest (RuleFault (width_of s) n u s) (number r) → p.answer ≡ Refused r → p.write ≡ 0 → Opens s n k u room p
-  judged : {fs : List Finding} → Judged (width_of s) n u s → Findings (Holds (width_of s) n s) n k u fs → p.answer ≡ Count (length fs) → p.write ≡ min (length fs) room → Coming s p.search fs
+  refused : {r : RuleRefusal} → Lowest (RuleFault (width_of s) n u s) (number r) → p.answer ≡ Err r → p.write ≡ 0 → Opens s n k u room p
+  judged : {fs : List Finding} → Judged (width_of s) n u s → Findings (Holds (width_of s) n s) n k u fs → p.answer ≡ Ok (length fs) → p.write ≡ min (length fs) room → Coming s p.search fs
       → Opens s n k u room p
 
 -- the same with what the writer asks
@@ -66,12 +66,12 @@ search_at c k at n =
 pub record Starts (s : List ℕ) (at : Layout) (n : Counts) (k : ℕ) (u : Rule) (room : ℕ) (p : Prepared) : Type 0 where
   pub list : List Finding
   pub findings : Findings (Holds at.width n s) n k u list
-  pub answer : p.answer ≡ Count (length list)
+  pub answer : p.answer ≡ Ok (length list)
   pub write : p.write ≡ min (length list) room
   pub coming : Coming s p.search list
   pub ready : Ready s p.search
 
 -- a refusal writes nothing
 pub record Stops (r : RuleRefusal) (p : Prepared) : Type 0 where
-  pub answer : p.answer ≡ Refused r
+  pub answer : p.answer ≡ Err r
   pub write : p.write ≡ 0

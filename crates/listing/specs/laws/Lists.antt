@@ -6,7 +6,7 @@ use Rattle.store.specs.Layout.{width_of}
 use Rattle.rule.specs.declared.Finding.{Finding}
 use Rattle.judge.specs.declared.Prepared.{Prepared}
 use Rattle.rule.specs.declared.Rule.{Rule}
-use Rattle.judge.specs.declared.Total.{Total}
+use Rattle.judge.specs.Total.{Total}
 use Rattle.judge.specs.Promise.{Lists}
 use Rattle.judge.specs.Promise.Lists.{refused, listed}
 use Rattle.judge.specs.own.Search.{Met, Opens, Prepares}

@@ -4,7 +4,7 @@ use Rattle.std.proofs.Common.{sym, ap, ◌∙◌, subst, arith}
 use Rattle.row.specs.Bit.{Words}
 use Rattle.rule.specs.declared.Finding.{Finding}
 use Rattle.judge.specs.Promise.{filled}
-use Rattle.sheet.specs.declared.Reading.{Reading}
+use Rattle.sheet.specs.Reading.{Reading}
 use Rattle.sheet.specs.Promise.{Reads}
 use Rattle.sheet.specs.Promise.Reads.{accepted as accepted_read}
 use Rattle.sheet.specs.laws.Pass.{said_of}

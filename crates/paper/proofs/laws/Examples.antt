@@ -14,8 +14,8 @@ use Rattle.closure.specs.Lines.Stated.{stated}
 use Rattle.rule.specs.declared.Head.TheVariants.{Ref, Irr}
 use Rattle.rule.specs.declared.RoleUse.{RoleUse}
 use Rattle.rule.specs.declared.Rule.{Rule}
-use Rattle.rule.specs.declared.Second.{Second}
-use Rattle.rule.specs.declared.Second.TheVariants as second
+use Rattle.rule.specs.Second.{Second}
+use Rattle.std.specs.Prelude.{None, Some}
 use Rattle.rule.specs.Breaks.{Breaks}
 use Rattle.rule.specs.Expr.{Expr, expr_at, expr_of}
 use Rattle.rule.specs.Expr.Expr.{name, top, neg, many}
@@ -156,12 +156,12 @@ one_of {C} {n} {P} a = go a.items a.count a.each
     go [] e f = absurd (omega arith)
     go (y ∷ ys) e f = (y, f y first)
 
-breaks-1 : Breaks (Follows (named 1) (Stated example1)) (named 1) (sub_at_least 1) 0 second.None
+breaks-1 : Breaks (Follows (named 1) (Stated example1)) (named 1) (sub_at_least 1) 0 None
 unfolding HoldsOf plain
 breaks-1 = (omega arith, (rw (at-least-left 1) (given (stated first)), rw (at-least-right 1) (λ a. let r = one_of a in absurd (follows-satisfied no-links r.1.1.0).condition)))
 
 ex-1 : ¬ (ICSatisfies (named 1) (Stated example1) (sub_at_least 1))
-ex-1 z = (theorem-c (settled_lines (λ c s. (no-links.satisfies c s).within)) (at-least-form 1 (omega arith) (omega arith)) (at-least-within 1 1)).0 z 0 second.None breaks-1
+ex-1 z = (theorem-c (settled_lines (λ c s. (no-links.satisfies c s).within)) (at-least-form 1 (omega arith) (omega arith)) (at-least-within 1 1)).0 z 0 None breaks-1
 
 -- ---- Examples 2 and 7: two linked items that do not follow to be the same
 
@@ -194,18 +194,18 @@ two-of {G} {P} m p q = record {
     apart : (y : ℕ) → y ≡ 2 → ¬ (Follows (named 3) G (Same 1 y))
     apart y e s = omega (arith, (follows-satisfied m s).condition)
 
-breaks-2 : Breaks (Follows (named 3) (Stated example2)) (named 3) sub_at_most_one 0 second.None
+breaks-2 : Breaks (Follows (named 3) (Stated example2)) (named 3) sub_at_most_one 0 None
 unfolding HoldsOf
 breaks-2 = (omega arith, (rw at-most-left (given (stated first)), rw at-most-right (λ f. f (two-of model-2 (given (stated (later first)), tt) (given (stated (later (later first))), tt)))))
 
 ex-2 : ¬ (ICSatisfies (named 3) (Stated example2) sub_at_most_one)
-ex-2 z = (theorem-c (settled_lines (λ c s. (model-2.satisfies c s).within)) at-most-form (at-most-within 3)).0 z 0 second.None breaks-2
+ex-2 z = (theorem-c (settled_lines (λ c s. (model-2.satisfies c s).within)) at-most-form (at-most-within 3)).0 z 0 None breaks-2
 
 -- only item 0 can break the rule of Example 7, and it does not
 none-7 : (x : ℕ) (y : Second) → ¬ (Breaks (Follows (named 3) (Stated example7)) (named 3) (sub_at_least 2) x y)
 unfolding HoldsOf plain
-none-7 x (second.Item y) b = b.2
-none-7 x second.None (l, (a, b)) = rw (at-least-right 2) at b (subst (λ (z : ℕ). Articles F (named 3) 2 (λ d. F (Link 0 z d) × F (In d 1))) (sym zero-only) enough)
+none-7 x (Some y) b = b.2
+none-7 x None (l, (a, b)) = rw (at-least-right 2) at b (subst (λ (z : ℕ). Articles F (named 3) 2 (λ d. F (Link 0 z d) × F (In d 1))) (sym zero-only) enough)
   where
     F : Cell → Type 0
     F = Follows (named 3) (Stated example7)
@@ -249,7 +249,7 @@ model-same = lines-model (one_article ∷ example7) (
 )
 
 -- what item 0 is linked to is item 1 or item 2, and these are the same
-breaks-same : Breaks (Follows (named 3) (Stated (one_article ∷ example7))) (named 3) (sub_at_least 2) 0 second.None
+breaks-same : Breaks (Follows (named 3) (Stated (one_article ∷ example7))) (named 3) (sub_at_least 2) 0 None
 unfolding HoldsOf folded
 breaks-same = (omega arith, (rw (at-least-left 2) (given (stated (later first))), rw (at-least-right 2) (λ a. pair a.items a.count (λ b o. a.each b o) a.different)))
   where
@@ -276,7 +276,7 @@ breaks-same = (omega arith, (rw (at-least-left 2) (given (stated (later first)))
 
 ex-7-same : ¬ (ICSatisfies (named 3) (Stated (one_article ∷ example7)) (sub_at_least 2))
 ex-7-same z =
-    (theorem-c (settled_lines (λ c s. (model-same.satisfies c s).within)) (at-least-form 2 (omega arith) (omega arith)) (at-least-within 3 2)).0 z 0 second.None breaks-same
+    (theorem-c (settled_lines (λ c s. (model-same.satisfies c s).within)) (at-least-form 2 (omega arith) (omega arith)) (at-least-within 3 2)).0 z 0 None breaks-same
 
 -- ---- Example 10
 
@@ -299,7 +299,7 @@ module _ {n : Counts} {lines : List Statement} (w : (c : Cell) → Stated lines 
     different = more (λ z o. absurd (one_none o)) none;
   }
 
-  query-10 : (x : ℕ) → Breaks F n (sub_at_least 1) x second.None ↔ (K (In x 0) × ¬ ((y : ℕ) × K (Link 0 x y) × K (In y 1)))
+  query-10 : (x : ℕ) → Breaks F n (sub_at_least 1) x None ↔ (K (In x 0) × ¬ ((y : ℕ) × K (Link 0 x y) × K (In y 1)))
   unfolding HoldsOf
   query-10 x = (
     λ (l, (a, b)). ((known (In x 0)).0 (rw (at-least-left 1) at a), λ (y, p, q). rw (at-least-right 1) at b (one-linked x y ((known (Link 0 x y)).1 p) ((known (In y 1)).1 q))),

@@ -16,8 +16,8 @@ use Rattle.store.specs.Keeps.{Keeps}
 use Rattle.closure.specs.laws.Demand3.{demand-3}
 use Rattle.rule.specs.declared.Finding.{Finding}
 use Rattle.rule.specs.declared.Rule.{Rule}
-use Rattle.rule.specs.declared.Second.{Second}
-use Rattle.judge.specs.declared.Total.TheVariants.{Count}
+use Rattle.rule.specs.Second.{Second}
+use Rattle.std.specs.Prelude.{Ok}
 use Rattle.rule.specs.Breaks.{Breaks}
 use Rattle.rule.specs.Findings.{Findings, finding_of}
 use Rattle.judge.specs.Promise.{Judged, Totals}
@@ -61,7 +61,7 @@ module _ {W : ℕ} {n : Counts} {Given : Cell → Type 0} {s : List ℕ} (k : Ke
   store-satisfied : {j : ℕ} {u : Rule} {fs : List Finding} → Judged W n u s → Findings (Holds W n s) n j u fs → ICSatisfies n Given u ↔ (length fs ≡ 0)
   store-satisfied d f = Iff.trans (theorem-c (settled-store k) d.form d.within) (no-finding f)
 
-  store-total : {u : Rule} {m : ℕ} → Totals W n u s (Count m) → ICSatisfies n Given u ↔ (m ≡ 0)
+  store-total : {u : Rule} {m : ℕ} → Totals W n u s (Ok m) → ICSatisfies n Given u ↔ (m ≡ 0)
   store-total (counted d f) = store-satisfied d f
 
   -- a query with the findings as its answers has none exactly if there are no findings

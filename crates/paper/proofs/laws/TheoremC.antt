@@ -10,8 +10,8 @@ use Rattle.rule.specs.declared.Head.{Head}
 use Rattle.rule.specs.declared.Head.TheVariants.{Sub, RoleSub, Chain, Ref, Irr, Dis, In, Rel, NoRel, Same, Differ}
 use Rattle.rule.specs.declared.RoleUse.{RoleUse}
 use Rattle.rule.specs.declared.Rule.{Rule}
-use Rattle.rule.specs.declared.Second.{Second}
-use Rattle.rule.specs.declared.Second.TheVariants as second
+use Rattle.rule.specs.Second.{Second}
+use Rattle.std.specs.Prelude.{None, Some}
 use Rattle.rule.specs.declared.Slot.{Slot}
 use Rattle.rule.specs.Breaks.{Breaks, BreaksAlone, BreaksPair, Path}
 use Rattle.rule.specs.Expr.{Expr, expr_of}
@@ -29,8 +29,8 @@ use Rattle.paper.proofs.laws.Values.{ItemsDeclared, composed-named, composed-pat
 
 -- what breaks a rule, by its nodes and its head
 abbrev HeadBreaks : (Cell → Type 0) → Counts → List Slot → Head → ℕ → Second → Type 0
-HeadBreaks C n ns h x second.None = DeclaredItem n x × BreaksAlone C n ns h x
-HeadBreaks C n ns h x (second.Item y) = DeclaredItem n x × DeclaredItem n y.0 × BreaksPair C n h x y.0
+HeadBreaks C n ns h x None = DeclaredItem n x × BreaksAlone C n ns h x
+HeadBreaks C n ns h x (Some y) = DeclaredItem n x × DeclaredItem n y.0 × BreaksPair C n h x y.0
 
 item-same : {a b : Item} → a.0 ≡ b.0 → a ≡ b
 item-same e = ap (λ (z : ℕ). record { 0 = z }) e
@@ -65,34 +65,34 @@ module _ {n : Counts} {G C : Cell → Type 0} (k : Settled n G C) {I : Interpret
   abbrev Alike : ℕ → ℕ → Type 0
   Alike x y = C (SameCell x y)
 
-  at_pair : {h : Head} {a b y : Item} {x : ℕ} → x ≡ a.0 → y.0 ≡ b.0 → ValueBreaks n U I ns h a.0 (second.Item b) → ValueBreaks n U I ns h x (second.Item y)
-  at_pair {h} q t v = subst₂ (λ (z : ℕ) (w : Item). ValueBreaks n U I ns h z (second.Item w)) (sym q) (sym (item-same t)) v
+  at_pair : {h : Head} {a b y : Item} {x : ℕ} → x ≡ a.0 → y.0 ≡ b.0 → ValueBreaks n U I ns h a.0 (Some b) → ValueBreaks n U I ns h x (Some y)
+  at_pair {h} q t v = subst₂ (λ (z : ℕ) (w : Item). ValueBreaks n U I ns h z (Some w)) (sym q) (sym (item-same t)) v
 
   breaks-value : (h : Head) (x : ℕ) (s : Second) → HeadDeclared n ns h → HeadBreaks C n ns h x s → ValueBreaks n U I ns h x s
-  breaks-value (Sub c d) x second.None e (l, (a, b)) = sub l ((known_of k m (expr_of ns c) e.0 l).1 a) (λ v. b ((known_of k m (expr_of ns d) e.1 l).0 v))
-  breaks-value (Sub c d) x (second.Item y) e b = absurd b.2
-  breaks-value (RoleSub r s) x second.None e b = absurd b.1
-  breaks-value (RoleSub r s) x (second.Item y) e (l, j, (a, b)) = rsub l j ((known-role k m r l j).1 a) (λ v. b ((known-role k m s l j).0 v))
-  breaks-value (Chain j r1 r2 r3 r4 r) x second.None e b = absurd b.1
-  breaks-value (Chain j r1 r2 r3 r4 r) x (second.Item y) e (l, i, (a, b)) = chain l i (path-composed k m (take j (r1 ∷ r2 ∷ r3 ∷ r4 ∷ [])) x y.0 l a) (λ v. b ((known-role k m r l i).0 v))
-  breaks-value (Ref r) x second.None e (l, b) = ref l (λ v. b ((known-role k m r l l).0 v))
-  breaks-value (Ref r) x (second.Item y) e b = absurd b.2
-  breaks-value (Irr r) x second.None e (l, a) = irr l ((known-role k m r l l).1 a)
-  breaks-value (Irr r) x (second.Item y) e b = absurd b.2
-  breaks-value (Dis r s) x second.None e b = absurd b.1
-  breaks-value (Dis r s) x (second.Item y) e (l, j, (a, b)) = dis l j ((known-role k m r l j).1 a) ((known-role k m s l j).1 b)
-  breaks-value (In c a) x second.None e (l, (q, b)) =
-      subst (λ (z : ℕ). ValueBreaks n U I ns (In c a) z second.None) (sym q)
+  breaks-value (Sub c d) x None e (l, (a, b)) = sub l ((known_of k m (expr_of ns c) e.0 l).1 a) (λ v. b ((known_of k m (expr_of ns d) e.1 l).0 v))
+  breaks-value (Sub c d) x (Some y) e b = absurd b.2
+  breaks-value (RoleSub r s) x None e b = absurd b.1
+  breaks-value (RoleSub r s) x (Some y) e (l, j, (a, b)) = rsub l j ((known-role k m r l j).1 a) (λ v. b ((known-role k m s l j).0 v))
+  breaks-value (Chain j r1 r2 r3 r4 r) x None e b = absurd b.1
+  breaks-value (Chain j r1 r2 r3 r4 r) x (Some y) e (l, i, (a, b)) = chain l i (path-composed k m (take j (r1 ∷ r2 ∷ r3 ∷ r4 ∷ [])) x y.0 l a) (λ v. b ((known-role k m r l i).0 v))
+  breaks-value (Ref r) x None e (l, b) = ref l (λ v. b ((known-role k m r l l).0 v))
+  breaks-value (Ref r) x (Some y) e b = absurd b.2
+  breaks-value (Irr r) x None e (l, a) = irr l ((known-role k m r l l).1 a)
+  breaks-value (Irr r) x (Some y) e b = absurd b.2
+  breaks-value (Dis r s) x None e b = absurd b.1
+  breaks-value (Dis r s) x (Some y) e (l, j, (a, b)) = dis l j ((known-role k m r l j).1 a) ((known-role k m s l j).1 b)
+  breaks-value (In c a) x None e (l, (q, b)) =
+      subst (λ (z : ℕ). ValueBreaks n U I ns (In c a) z None) (sym q)
       (isin (λ v. b (subst (λ (z : ℕ). HoldsOf C n (expr_of ns c) z) (sym q) ((known_of k m (expr_of ns c) e.0 e.1).0 v))))
-  breaks-value (In c a) x (second.Item y) e b = absurd b.2
-  breaks-value (Rel r a b) x second.None e v = absurd v.1
-  breaks-value (Rel r a b) x (second.Item y) e (l, j, (q, t, v)) = at_pair q t (rel (λ z. v (subst₂ (Linked C r) (sym q) (sym t) ((known-role k m r e.0 e.1).0 z))))
-  breaks-value (NoRel r a b) x second.None e v = absurd v.1
-  breaks-value (NoRel r a b) x (second.Item y) e (l, j, (q, t, v)) = at_pair q t (norel ((known-role k m r e.0 e.1).1 (subst₂ (Linked C r) q t v)))
-  breaks-value (Same a b) x second.None e v = absurd v.1
-  breaks-value (Same a b) x (second.Item y) e (l, j, (q, t, v)) = at_pair q t (same (λ z. v (subst₂ Alike (sym q) (sym t) ((minimal-value k m e.0 e.1).0 z.equal))))
-  breaks-value (Differ a b) x second.None e v = absurd v.1
-  breaks-value (Differ a b) x (second.Item y) e (l, j, (q, t, v)) = at_pair q t (differ (record { equal = (minimal-value k m e.0 e.1).1 (subst₂ Alike q t v) }))
+  breaks-value (In c a) x (Some y) e b = absurd b.2
+  breaks-value (Rel r a b) x None e v = absurd v.1
+  breaks-value (Rel r a b) x (Some y) e (l, j, (q, t, v)) = at_pair q t (rel (λ z. v (subst₂ (Linked C r) (sym q) (sym t) ((known-role k m r e.0 e.1).0 z))))
+  breaks-value (NoRel r a b) x None e v = absurd v.1
+  breaks-value (NoRel r a b) x (Some y) e (l, j, (q, t, v)) = at_pair q t (norel ((known-role k m r e.0 e.1).1 (subst₂ (Linked C r) q t v)))
+  breaks-value (Same a b) x None e v = absurd v.1
+  breaks-value (Same a b) x (Some y) e (l, j, (q, t, v)) = at_pair q t (same (λ z. v (subst₂ Alike (sym q) (sym t) ((minimal-value k m e.0 e.1).0 z.equal))))
+  breaks-value (Differ a b) x None e v = absurd v.1
+  breaks-value (Differ a b) x (Some y) e (l, j, (q, t, v)) = at_pair q t (differ (record { equal = (minimal-value k m e.0 e.1).1 (subst₂ Alike q t v) }))
 
   -- ---- a value that breaks the condition is a finding's
 
@@ -129,7 +129,7 @@ module _ {n : Counts} {G C : Cell → Type 0} (k : Settled n G C) {I : Interpret
   NoFinding h = (x : ℕ) (s : Second) → ¬ (HeadBreaks C n ns h x s)
 
   meets-sub : (c d : ℕ) → HeadDeclared n ns (Sub c d) → NoFinding (Sub c d) → Meets n U I ns (Sub c d)
-  meets-sub c d e f g v = subst (KnownOf n U I (expr_of ns d)) w.value (told_of (expr_of ns d) e.1 w.declared (λ b. f w.name second.None (w.declared, (left, b))))
+  meets-sub c d e f g v = subst (KnownOf n U I (expr_of ns d)) w.value (told_of (expr_of ns d) e.1 w.declared (λ b. f w.name None (w.declared, (left, b))))
     where
       w : Named n I g
       w = of-named k m (expr_of ns c) e.0 v
@@ -139,7 +139,7 @@ module _ {n : Counts} {G C : Cell → Type 0} (k : Settled n G C) {I : Interpret
 
   meets-chain : (j : ℕ) (r1 r2 r3 r4 r : RoleUse) → 2 ≤ j → NoFinding (Chain j r1 r2 r3 r4 r) → Meets n U I ns (Chain j r1 r2 r3 r4 r)
   meets-chain zero r1 r2 r3 r4 r g f d e p = absurd (omega arith)
-  meets-chain (suc j) r1 r2 r3 r4 r g f d e p = told_at r v w (λ b. f v.name (second.Item (record { 0 = w.name })) (v.declared, w.declared, (path, b)))
+  meets-chain (suc j) r1 r2 r3 r4 r g f d e p = told_at r v w (λ b. f v.name (Some (record { 0 = w.name })) (v.declared, w.declared, (path, b)))
     where
       v : Named n I d
       v = (role-named k m r1 p.1).0
@@ -154,24 +154,24 @@ module _ {n : Counts} {G C : Cell → Type 0} (k : Settled n G C) {I : Interpret
   none-meets : (h : Head) → HeadDeclared n ns h → NoFinding h → Meets n U I ns h
   none-meets (Sub c d) e f = meets-sub c d e f
   none-meets (RoleSub r s) e f = λ d g x. let p = role-named k m r x in
-      told_at s p.0 p.1 (λ b. f p.0.name (second.Item (record { 0 = p.1.name })) (p.0.declared, p.1.declared, (linked-at r p.0 p.1 x, b)))
+      told_at s p.0 p.1 (λ b. f p.0.name (Some (record { 0 = p.1.name })) (p.0.declared, p.1.declared, (linked-at r p.0 p.1 x, b)))
   none-meets (Chain j r1 r2 r3 r4 r) e f = meets-chain j r1 r2 r3 r4 r e f
-  none-meets (Ref r) e f = λ x l. told-role r l l (λ b. f x second.None (l, b))
-  none-meets (Irr r) e f = λ x l a. f x second.None (l, (known-role k m r l l).0 a)
+  none-meets (Ref r) e f = λ x l. told-role r l l (λ b. f x None (l, b))
+  none-meets (Irr r) e f = λ x l a. f x None (l, (known-role k m r l l).0 a)
   none-meets (Dis r s) e f = λ d g x y. let p = role-named k m r x in
-      f p.0.name (second.Item (record { 0 = p.1.name })) (p.0.declared, p.1.declared, (linked-at r p.0 p.1 x, linked-at s p.0 p.1 y))
-  none-meets (In c a) e f = told_of (expr_of ns c) e.0 e.1 (λ b. f a.0 second.None (e.1, (refl, b)))
-  none-meets (Rel r a b) e f = told-role r e.0 e.1 (λ v. f a.0 (second.Item b) (e.0, e.1, (refl, refl, v)))
-  none-meets (NoRel r a b) e f = λ v. f a.0 (second.Item b) (e.0, e.1, (refl, refl, (known-role k m r e.0 e.1).0 v))
-  none-meets (Same a b) e f = record { equal = (minimal-value k m e.0 e.1).1 ((Dec.not-not (k.tell (SameCell a.0 b.0))).0 (λ v. f a.0 (second.Item b) (e.0, e.1, (refl, refl, v)))) }
-  none-meets (Differ a b) e f = λ v. f a.0 (second.Item b) (e.0, e.1, (refl, refl, (minimal-value k m e.0 e.1).0 v.equal))
+      f p.0.name (Some (record { 0 = p.1.name })) (p.0.declared, p.1.declared, (linked-at r p.0 p.1 x, linked-at s p.0 p.1 y))
+  none-meets (In c a) e f = told_of (expr_of ns c) e.0 e.1 (λ b. f a.0 None (e.1, (refl, b)))
+  none-meets (Rel r a b) e f = told-role r e.0 e.1 (λ v. f a.0 (Some b) (e.0, e.1, (refl, refl, v)))
+  none-meets (NoRel r a b) e f = λ v. f a.0 (Some b) (e.0, e.1, (refl, refl, (known-role k m r e.0 e.1).0 v))
+  none-meets (Same a b) e f = record { equal = (minimal-value k m e.0 e.1).1 ((Dec.not-not (k.tell (SameCell a.0 b.0))).0 (λ v. f a.0 (Some b) (e.0, e.1, (refl, refl, v)))) }
+  none-meets (Differ a b) e f = λ v. f a.0 (Some b) (e.0, e.1, (refl, refl, (minimal-value k m e.0 e.1).0 v.equal))
 
 -- ---- the theorem
 
 module _ {n : Counts} {G C : Cell → Type 0} (k : Settled n G C) {u : Rule} (form : WellFormed u) (within : RuleWithin n u) where
   by-head : (x : ℕ) (s : Second) → Breaks C n u x s ↔ HeadBreaks C n u.nodes u.head x s
-  by-head x second.None = (λ b. b, λ b. b)
-  by-head x (second.Item y) = (λ b. b, λ b. b)
+  by-head x None = (λ b. b, λ b. b)
+  by-head x (Some y) = (λ b. b, λ b. b)
 
   -- an item, or a pair, breaks the rule exactly if its value breaks the rule's condition, in each model with minimal equality
   pub theorem-c-finding : {I : Interpretation} → Minimal n G I → (x : ℕ) (s : Second) → Breaks C n u x s ↔ ValueBreaks n (Minimal n G) I u.nodes u.head x s

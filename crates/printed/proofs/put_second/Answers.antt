@@ -6,5 +6,5 @@ use Rattle.printed.proofs.put_second.Goals as goal
 pub returns-in-None : goal.returns-in-None
 returns-in-None c = (rw c.in-None.is (wrote_none _ _), omega arith)
 
-pub returns-in-Item : goal.returns-in-Item
-returns-in-Item c = (rw c.in-Item.is c.put_name.ensures.0, c.put_name.ensures.1)
+pub returns-in-Some : goal.returns-in-Some
+returns-in-Some c = (rw c.in-Some.is c.put_name.ensures.0, c.put_name.ensures.1)

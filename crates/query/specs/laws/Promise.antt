@@ -8,8 +8,9 @@ use Rattle.store.specs.declared.Counts.{Counts}
 use Rattle.store.specs.Layout.{Fits, large}
 use Rattle.rule.specs.declared.Rule.{Rule}
 use Rattle.rule.specs.Form.{WellFormed, RuleWithin}
-use Rattle.query.specs.declared.Outcome.{Outcome}
-use Rattle.query.specs.declared.Outcome.TheVariants.{Compiled, Refused}
+use Rattle.query.specs.Outcome.{Outcome}
+use Rattle.query.specs.Outcome.{compiled_as}
+use Rattle.std.specs.Prelude.{Err}
 use Rattle.query.specs.declared.QueryRefusal.{QueryRefusal}
 use Rattle.query.specs.declared.QueryRefusal.TheVariants.{Size, Malformed, Number, Long as TooLong, Room}
 use Rattle.body.specs.Body.{flat, size}
@@ -88,16 +89,16 @@ spacious n u room r k w i h le fit = record { fits = subst (λ m. 4 * m ≤ leng
 at_front : (l ws : List ℕ) → length ws ≤ length l → sets l 0 ws ≡ ws ++ drop (length ws) l
 at_front l ws h = let e : 0 + length ws ≡ length ws = omega arith in sets-eq ws l 0 (omega arith) ∙ ap (λ n. ws ++ drop n l) e
 
-pub long-refused : (n : Counts) (u : Rule) (room : List ℕ) (r : ℕ) → Fits large n → WellFormed u → RuleWithin n u → Long u.nodes u.head r → item_limit < r → Compiles large n u room room (Refused TooLong)
+pub long-refused : (n : Counts) (u : Rule) (room : List ℕ) (r : ℕ) → Fits large n → WellFormed u → RuleWithin n u → Long u.nodes u.head r → item_limit < r → Compiles large n u room room (Err TooLong)
 long-refused n u room r k w i h lt = refused (refused-5 k w i (over-length u r w h lt)) refl
 
-pub room-refused : (n : Counts) (u : Rule) (room : List ℕ) (r : ℕ) → Fits large n → WellFormed u → RuleWithin n u → Long u.nodes u.head r → r ≤ item_limit → length room < 4 * r → Compiles large n u room room (Refused Room)
+pub room-refused : (n : Counts) (u : Rule) (room : List ℕ) (r : ℕ) → Fits large n → WellFormed u → RuleWithin n u → Long u.nodes u.head r → r ≤ item_limit → length room < 4 * r → Compiles large n u room room (Err Room)
 room-refused n u room r k w i h le lt =
     let e : r ≡ size (query_of u) = exact-length u r w h le in
     refused (refused-6 k w i (subst (λ m. m ≤ item_limit) e le) (subst (λ m. length room < 4 * m) e lt)) refl
 
 pub filled-compiled : (n : Counts) (u : Rule) (before after : List ℕ) (r k : ℕ) {o : Outcome} → Fits large n → WellFormed u → RuleWithin n u → Long u.nodes u.head r → r ≤ item_limit → 4 * r ≤ length before
-    → Filled before after u.nodes u.head → k ≡ answers_of u.head → o ≡ Compiled r k → Compiles large n u before after o
+    → Filled before after u.nodes u.head → k ≡ answers_of u.head → o ≡ compiled_as r k → Compiles large n u before after o
 filled-compiled n u before after r k f w i h le fit d a q =
     let e : r ≡ size (query_of u) = exact-length u r w h le in
     let m : 4 * size (query_of u) ≤ length before = subst (λ z. 4 * z ≤ length before) e fit in
@@ -124,7 +125,7 @@ number-one j k e = sym (back j) ∙ ap refusal_of e ∙ back k
 
 -- any two results that compiling allows are equal, and so are the rooms that it leaves
 pub compiles-unique : {W : ℕ} {n : Counts} {u : Rule} {before after₁ after₂ : List ℕ} {r₁ r₂ : Outcome} → Compiles W n u before after₁ r₁ → Compiles W n u before after₂ r₂ → (r₁ ≡ r₂) × (after₁ ≡ after₂)
-compiles-unique (refused {k = j} a e) (refused {k = k} b f) = (ap Refused (number-one j k (lowest-unique a b)), e ∙ sym f)
+compiles-unique (refused {k = j} a e) (refused {k = k} b f) = (ap Err (number-one j k (lowest-unique a b)), e ∙ sym f)
 compiles-unique (refused a e) (compiled b f) = absurd (compilable-none b _ a.applies)
 compiles-unique (compiled a e) (refused b f) = absurd (compilable-none a _ b.applies)
 compiles-unique (compiled a e) (compiled b f) = (refl, e ∙ sym f)

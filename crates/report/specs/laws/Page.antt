@@ -10,7 +10,7 @@ use Rattle.sheet.specs.declared.Ended.{Ended}
 use Rattle.sheet.specs.declared.RuleLine.{RuleLine}
 use Rattle.field.specs.Names.{counts_of}
 use Rattle.sheet.specs.own.Pass.{Judges, found_rule}
-use Rattle.sheet.specs.declared.Reading.TheVariants as reading
+use Rattle.sheet.specs.Reading.{refused_as}
 use Rattle.sheet.specs.Promise.{FindingsIn, Held, Leaves, Prints, refused_text, total_text}
 use Rattle.sheet.specs.Promise.Prints.{refused, accepted}
 use Rattle.sheet.specs.Promise.Reads.{wrong_size as wrong-read, refused as refused_read, accepted as accepted_read}
@@ -51,14 +51,14 @@ module _ {W : ℕ} {sheet numbers t : List ℕ} {e : Ended} (w : Filled W sheet 
 
 -- the store is as reading the sheet leaves it
 leaves-read : {sheet s t text : List ℕ} → length s ≡ size (width_of s) → Words 64 t → Leaves (width_of s) (outcome (width_of s) sheet) s t → Prints (width_of s) sheet text → ReadInto sheet s t
-leaves-read {s = s} {t = t} l v h (refused {n = n} {k = k} o) = record { answer = reading.Refused n k; reads = refused_read l o (subst (λ (z : Outcome). Leaves (width_of s) z s t) o h) }
+leaves-read {s = s} {t = t} l v h (refused {n = n} {k = k} o) = record { answer = refused_as n k; reads = refused_read l o (subst (λ (z : Outcome). Leaves (width_of s) z s t) o h) }
 leaves-read {s = s} {t = t} l v h (accepted {x = x} {fs = fs} o w d f) =
     let e : Held (width_of s) x t = subst (λ (z : Outcome). Leaves (width_of s) z s t) o h in
     record { answer = _; reads = accepted_read l o e (subst (λ (z : List ℕ). FindingsIn (width_of s) x z fs) (keeps-unique w v d e) f) }
 
 -- a store of another length
 pub page-size : {sheet s room exit : List ℕ} {r : ℕ} → ¬ (length s ≡ size (width_of s)) → Wrote room 0 (refused_text 0 1) exit r → PagesIn sheet s s room exit r
-page-size z h = record { text = refused_text 0 1; prints = wrong_size z; left = record { answer = reading.Refused 0 1; reads = wrong-read z refl }; wrote = h }
+page-size z h = record { text = refused_text 0 1; prints = wrong_size z; left = record { answer = refused_as 0 1; reads = wrong-read z refl }; wrote = h }
 
 -- a store that the sheet was read into
 pub page-read : {sheet s numbers t room exit : List ℕ} {e : Ended} {r : ℕ} → length s ≡ size (width_of s) → Words 64 t → Opens (width_of s) sheet s numbers t e → Pages (width_of s) sheet room exit r

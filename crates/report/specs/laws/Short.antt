@@ -10,8 +10,8 @@ use Rattle.text.specs.laws.Text.{decimal-digits}
 use Rattle.store.specs.Layout.{large, small, width_of}
 use Rattle.store.specs.laws.Width.{width_two}
 use Rattle.rule.specs.declared.Finding.{Finding}
-use Rattle.rule.specs.declared.Second.{Second}
-use Rattle.rule.specs.declared.Second.TheVariants as second
+use Rattle.rule.specs.Second.{Second}
+use Rattle.std.specs.Prelude.{None, Some}
 use Rattle.field.specs.Names.{Names, counts_of}
 use Rattle.line.specs.Fault.{rule_limit, sheet_limit}
 use Rattle.sheet.specs.Promise.{FindingsIn, Held, Prints, finding_text, findings_text, print_limit, refused_text, second_text, total_text}
@@ -26,8 +26,8 @@ use Rattle.report.specs.Promise.PrintsIn.{wrong_size, printed}
 
 -- the second item: a tab and a name
 second_short : (n : Names) (y : Second) → ((i : ℕ) → length (get_or n.items i []) ≤ name_limit) → length (second_text n y) ≤ 25
-second_short n second.None h = omega arith
-second_short n (second.Item j) h = let z = h j.0 in omega arith
+second_short n None h = omega arith
+second_short n (Some j) h = let z = h j.0 in omega arith
 
 -- a line: a word of 7 bytes, a number of 5 digits, two names of 24 bytes, a tab before each, a line feed
 module _ (x : Said) (s : Slight (sheet_limit + 3) x) where

@@ -7,26 +7,26 @@ use Rattle.store.specs.declared.Counts.{Counts}
 use Rattle.store.specs.Cell.{Cell}
 use Rattle.rule.specs.declared.Finding.{Finding}
 use Rattle.rule.specs.declared.Rule.{Rule}
-use Rattle.rule.specs.declared.Second.{Second}
-use Rattle.rule.specs.declared.Second.TheVariants as second
+use Rattle.rule.specs.Second.{Second}
+use Rattle.std.specs.Prelude.{None, Some}
 use Rattle.rule.specs.Breaks.{Breaks}
 use Rattle.rule.specs.Findings.{Before, Findings, InOrder, SecondBefore}
 use Rattle.rule.specs.Findings.InOrder.{more}
 
 -- the place of a second item: none comes first
 abbrev rank : Second → ℕ
-rank second.None = 0
-rank (second.Item j) = j.0 + 1
+rank None = 0
+rank (Some j) = j.0 + 1
 
 -- the place of a finding among all pairs of an item and a second item or none, of m items
 abbrev place : ℕ → Finding → ℕ
 place m f = f.item.0 * suc m + rank f.second
 
 rank_rises : (s t : Second) → SecondBefore s t → rank s < rank t
-rank_rises second.None second.None b = absurd b
-rank_rises second.None (second.Item j) b = omega arith
-rank_rises (second.Item i) second.None b = absurd b
-rank_rises (second.Item i) (second.Item j) b = omega arith
+rank_rises None None b = absurd b
+rank_rises None (Some j) b = omega arith
+rank_rises (Some i) None b = absurd b
+rank_rises (Some i) (Some j) b = omega arith
 
 place-rises : (m : ℕ) (f g : Finding) → rank f.second ≤ m → Before f g → place m f < place m g
 place-rises m f g h (inl l) = omega (arith, suc-mul f.item.0 (suc m), mul-le-mul_right (suc m) l)
@@ -41,8 +41,8 @@ rising-few m l k (f ∷ fs) h (more b o) w =
     omega (arith, z.0)
 
 breaks-few : (C : Cell → Type 0) (n : Counts) (u : Rule) (m x : ℕ) (s : Second) → n.items ≤ m → Breaks C n u x s → (x < m) × (rank s ≤ m)
-breaks-few C n u m x second.None h b = (omega (arith, b.0), omega arith)
-breaks-few C n u m x (second.Item j) h b = (omega (arith, b.0), omega (arith, b.1))
+breaks-few C n u m x None h b = (omega (arith, b.0), omega arith)
+breaks-few C n u m x (Some j) h b = (omega (arith, b.0), omega (arith, b.1))
 
 -- among m items at most m times m + 1 of them
 pub few-findings : {C : Cell → Type 0} {n : Counts} {k m : ℕ} {u : Rule} {fs : List Finding} → n.items ≤ m → Findings C n k u fs → length fs ≤ m * suc m

@@ -9,18 +9,18 @@ use Rattle.store.specs.declared.Counts.{Counts}
 use Rattle.store.specs.Cell.{Cell}
 use Rattle.rule.specs.declared.Finding.{Finding}
 use Rattle.rule.specs.declared.Rule.{Rule}
-use Rattle.rule.specs.declared.Second.{Second}
-use Rattle.rule.specs.declared.Second.TheVariants as second
+use Rattle.rule.specs.Second.{Second}
+use Rattle.std.specs.Prelude.{None, Some}
 use Rattle.rule.specs.Breaks.{Breaks}
 use Rattle.rule.specs.Findings.{SecondBefore, Before, InOrder, finding_of, Findings}
 use Rattle.rule.specs.Findings.InOrder.{none, more}
 
 -- no second item comes before itself, and of two only one before the other
 second-apart : (s t : Second) → SecondBefore s t → SecondBefore t s → ⊥
-second-apart second.None second.None x y = x
-second-apart second.None (second.Item j) x y = y
-second-apart (second.Item i) second.None x y = x
-second-apart (second.Item i) (second.Item j) x y = omega arith
+second-apart None None x y = x
+second-apart None (Some j) x y = y
+second-apart (Some i) None x y = x
+second-apart (Some i) (Some j) x y = omega arith
 
 -- of two findings only one comes before the other
 before-apart : (f g : Finding) → Before f g → Before g f → ⊥

@@ -16,7 +16,7 @@ use Rattle.reason.specs.Part.Part.{none as none_part, keep, leave}
 use Rattle.field.specs.declared.Due.TheVariants as due
 use Rattle.field.specs.declared.Form.{Form}
 use Rattle.field.specs.declared.Form.TheVariants as form
-use Rattle.sheet.specs.declared.Reading.TheVariants as reading
+use Rattle.sheet.specs.Reading.{refused_as}
 use Rattle.field.specs.Due.{none}
 use Rattle.line.specs.Fault.{line_fault}
 use Rattle.field.specs.Names.{counts_of}
@@ -31,8 +31,8 @@ use Rattle.field.specs.laws.Right.{concept-new, right-first}
 use Rattle.saying.proofs.laws.Judged.{Good, rule-good}
 use Rattle.sheet.specs.laws.Pass.{accepted-start, accepted-step, said_of}
 use Rattle.sheet.specs.laws.Refused.{refused-small}
-use Rattle.why.specs.declared.Explained.{Explained}
-use Rattle.finding.specs.declared.FindingExplained.{FindingExplained}
+use Rattle.why.specs.Explained.{Explained}
+use Rattle.finding.specs.Explained.{FindingExplained}
 use Rattle.finding.specs.Finding.{BrokenSub, ExplainsFinding, SubOfNames, concept}
 use Rattle.finding.specs.Finding.ExplainsFinding.{refused as refused_finding, not-broken, found as found_finding}
 use Rattle.why.specs.Promise.{Explains}
@@ -56,7 +56,7 @@ lines-few W sheet x o r = omega (arith, part-few r.part, statements-few W sheet 
 -- ---- the line and the number of a refusal
 
 -- a refusal has a line below a million and a number below a hundred, that of the store too
-pub reads-small : {sheet s t : List ℕ} {n j : ℕ} → Reads sheet s t (reading.Refused n j) → (n < 1000000) × (j < 100)
+pub reads-small : {sheet s t : List ℕ} {n j : ℕ} → Reads sheet s t (refused_as n j) → (n < 1000000) × (j < 100)
 reads-small {sheet} (wrong_size z e) = (omega arith, omega arith)
 reads-small {sheet} (refused_read l o h) = let z = refused-small _ sheet o in (omega arith, z.1)
 

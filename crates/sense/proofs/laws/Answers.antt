@@ -12,8 +12,8 @@ use Rattle.rule.specs.declared.Head.{Head}
 use Rattle.rule.specs.declared.Head.TheVariants.{Sub, RoleSub, Chain, Ref, Irr, Dis, In, Rel, NoRel, Same, Differ}
 use Rattle.rule.specs.declared.Rule.{Rule}
 use Rattle.rule.specs.declared.RoleUse.{RoleUse}
-use Rattle.rule.specs.declared.Second.{Second}
-use Rattle.rule.specs.declared.Second.TheVariants as second
+use Rattle.rule.specs.Second.{Second}
+use Rattle.std.specs.Prelude.{None, Some}
 use Rattle.rule.specs.declared.Slot.{Slot}
 use Rattle.rule.specs.Form.{HeadFits, HeadWithin}
 use Rattle.rule.specs.Expr.{Expr, expr_of}
@@ -81,7 +81,7 @@ module _ (K : Cell → Type 0) (N : Counts) where
   abbrev Says1 : Body → (ℕ → Type 0) → Type 0
   Says1 q P = ((σ : Values) → InRange K N σ → All K N (λ v. v < 1) σ q → P (σ 0)) × ((x : ℕ) → DeclaredItem N x → P x → (σ : Values) × InRange K N σ × (σ 0 ≡ x) × All K N (λ v. v < 1) σ q)
 
-  result-1 : (q : Body) (P : ℕ → Type 0) (B : ℕ → Second → Type 0) → ((x : ℕ) → DeclaredItem N x × P x → B x second.None) → ((x : ℕ) → B x second.None → DeclaredItem N x × P x) → Says1 q P → Result 1 q B
+  result-1 : (q : Body) (P : ℕ → Type 0) (B : ℕ → Second → Type 0) → ((x : ℕ) → DeclaredItem N x × P x → B x None) → ((x : ℕ) → B x None → DeclaredItem N x × P x) → Says1 q P → Result 1 q B
   result-1 q P B mk un h xs = (to xs, from xs)
     where
       to : (xs : List ℕ) → Answer K N 1 (flat q) xs → (x : ℕ) × (s : Second) × Shown 1 x s xs × B x s
@@ -90,9 +90,9 @@ module _ (K : Cell → Type 0) (N : Counts) where
       to (x ∷ []) a =
           let s = read 1 q (x ∷ []) a in
           let e : s.0 0 ≡ x = s.2 0 (omega arith) in
-          (x, second.None, alone, mk x (subst (DeclaredItem N) e (s.1 0), subst P e (h.0 s.0 s.1 s.3)))
+          (x, None, alone, mk x (subst (DeclaredItem N) e (s.1 0), subst P e (h.0 s.0 s.1 s.3)))
 
-      at : (x : ℕ) → B x second.None → Answer K N 1 (flat q) (x ∷ [])
+      at : (x : ℕ) → B x None → Answer K N 1 (flat q) (x ∷ [])
       at x b =
           let p = un x b in
           let s = h.1 x p.0 p.1 in
@@ -109,7 +109,7 @@ module _ (K : Cell → Type 0) (N : Counts) where
   abbrev Says2 : Body → (ℕ → ℕ → Type 0) → Type 0
   Says2 q P = ((σ : Values) → InRange K N σ → All K N (λ v. v < 2) σ q → P (σ 0) (σ 1)) × ((x y : ℕ) → DeclaredItem N x → DeclaredItem N y → P x y → (σ : Values) × InRange K N σ × (σ 0 ≡ x) × (σ 1 ≡ y) × All K N (λ v. v < 2) σ q)
 
-  result-2 : (q : Body) (P : ℕ → ℕ → Type 0) (B : ℕ → Second → Type 0) → ((x : ℕ) (y : Item) → DeclaredItem N x × DeclaredItem N y.0 × P x y.0 → B x (second.Item y)) → ((x : ℕ) (y : Item) → B x (second.Item y) → DeclaredItem N x × DeclaredItem N y.0 × P x y.0) → Says2 q P → Result 2 q B
+  result-2 : (q : Body) (P : ℕ → ℕ → Type 0) (B : ℕ → Second → Type 0) → ((x : ℕ) (y : Item) → DeclaredItem N x × DeclaredItem N y.0 × P x y.0 → B x (Some y)) → ((x : ℕ) (y : Item) → B x (Some y) → DeclaredItem N x × DeclaredItem N y.0 × P x y.0) → Says2 q P → Result 2 q B
   result-2 q P B mk un h xs = (to xs, from xs)
     where
       to : (xs : List ℕ) → Answer K N 2 (flat q) xs → (x : ℕ) × (s : Second) × Shown 2 x s xs × B x s
@@ -120,9 +120,9 @@ module _ (K : Cell → Type 0) (N : Counts) where
           let s = read 2 q (x ∷ y ∷ []) a in
           let e : s.0 0 ≡ x = s.2 0 (omega arith) in
           let f : s.0 1 ≡ y = s.2 1 (omega arith) in
-          (x, second.Item (record { 0 = y }), pair, mk x (record { 0 = y }) (subst (DeclaredItem N) e (s.1 0), subst (DeclaredItem N) f (s.1 1), subst₂ P e f (h.0 s.0 s.1 s.3)))
+          (x, Some (record { 0 = y }), pair, mk x (record { 0 = y }) (subst (DeclaredItem N) e (s.1 0), subst (DeclaredItem N) f (s.1 1), subst₂ P e f (h.0 s.0 s.1 s.3)))
 
-      at : (x : ℕ) (y : Item) → B x (second.Item y) → Answer K N 2 (flat q) (x ∷ y.0 ∷ [])
+      at : (x : ℕ) (y : Item) → B x (Some y) → Answer K N 2 (flat q) (x ∷ y.0 ∷ [])
       at x y b =
           let p = un x y b in
           let s = h.1 x y.0 p.0 p.1 p.2 in
@@ -355,32 +355,32 @@ module _ (K : Cell → Type 0) (N : Counts) where
       result-2 (atom (link r 0 1) (atom (link s 0 1) end)) (λ x y. Linked K r x y × Linked K s x y) (Breaks K N (record { head = Dis r s; len = n; nodes = ns })) (λ x y p. p) (λ x y b. b) (says-dis r s)
   answers-head n ns (In c a) f w le =
       let C : Expr = expr_of ns c in
-      result-0 (not (of_expr C (first_item + a.0) 0) end) (¬ (HoldsOf K N C a.0)) (Breaks K N (record { head = In c a; len = n; nodes = ns })) a.0 second.None (λ p. (w, (refl, p))) back
+      result-0 (not (of_expr C (first_item + a.0) 0) end) (¬ (HoldsOf K N C a.0)) (Breaks K N (record { head = In c a; len = n; nodes = ns })) a.0 None (λ p. (w, (refl, p))) back
       (says-in C a.0 w (omega (arith, le, head-length n ns (In c a) f, variables-le C)))
     where
       back : (y : ℕ) (t : Second) → Breaks K N (record { head = In c a; len = n; nodes = ns }) y t → ¬ (HoldsOf K N (expr_of ns c) a.0)
-      back y second.None b = subst (λ z. ¬ (HoldsOf K N (expr_of ns c) z)) b.1.0 b.1.1
-      back y (second.Item z) b = absurd b.2
-  answers-head n ns (Rel r a b) f w le = result-0 (without (link r (first_item + a.0) (first_item + b.0))) (¬ (Linked K r a.0 b.0)) (Breaks K N (record { head = Rel r a b; len = n; nodes = ns })) a.0 (second.Item b) (λ p. (w.1, w.2, (refl, refl, p))) back (says-rel r a.0 b.0 w.1)
+      back y None b = subst (λ z. ¬ (HoldsOf K N (expr_of ns c) z)) b.1.0 b.1.1
+      back y (Some z) b = absurd b.2
+  answers-head n ns (Rel r a b) f w le = result-0 (without (link r (first_item + a.0) (first_item + b.0))) (¬ (Linked K r a.0 b.0)) (Breaks K N (record { head = Rel r a b; len = n; nodes = ns })) a.0 (Some b) (λ p. (w.1, w.2, (refl, refl, p))) back (says-rel r a.0 b.0 w.1)
     where
       back : (y : ℕ) (t : Second) → Breaks K N (record { head = Rel r a b; len = n; nodes = ns }) y t → ¬ (Linked K r a.0 b.0)
-      back y second.None q = absurd q.1
-      back y (second.Item z) q = subst₂ (λ i j. ¬ (Linked K r i j)) q.2.0 q.2.1 q.2.2
-  answers-head n ns (NoRel r a b) f w le = result-0 (atom (link r (first_item + a.0) (first_item + b.0)) end) (Linked K r a.0 b.0) (Breaks K N (record { head = NoRel r a b; len = n; nodes = ns })) a.0 (second.Item b) (λ p. (w.1, w.2, (refl, refl, p))) back (says-no-rel r a.0 b.0 w.1)
+      back y None q = absurd q.1
+      back y (Some z) q = subst₂ (λ i j. ¬ (Linked K r i j)) q.2.0 q.2.1 q.2.2
+  answers-head n ns (NoRel r a b) f w le = result-0 (atom (link r (first_item + a.0) (first_item + b.0)) end) (Linked K r a.0 b.0) (Breaks K N (record { head = NoRel r a b; len = n; nodes = ns })) a.0 (Some b) (λ p. (w.1, w.2, (refl, refl, p))) back (says-no-rel r a.0 b.0 w.1)
     where
       back : (y : ℕ) (t : Second) → Breaks K N (record { head = NoRel r a b; len = n; nodes = ns }) y t → Linked K r a.0 b.0
-      back y second.None q = absurd q.1
-      back y (second.Item z) q = subst₂ (Linked K r) q.2.0 q.2.1 q.2.2
-  answers-head n ns (Same a b) f w le = result-0 (without (eq (first_item + a.0) (first_item + b.0))) (¬ (K (SameCell a.0 b.0))) (Breaks K N (record { head = Same a b; len = n; nodes = ns })) a.0 (second.Item b) (λ p. (w.0, w.1, (refl, refl, p))) back (says_same a.0 b.0 w.0)
+      back y None q = absurd q.1
+      back y (Some z) q = subst₂ (Linked K r) q.2.0 q.2.1 q.2.2
+  answers-head n ns (Same a b) f w le = result-0 (without (eq (first_item + a.0) (first_item + b.0))) (¬ (K (SameCell a.0 b.0))) (Breaks K N (record { head = Same a b; len = n; nodes = ns })) a.0 (Some b) (λ p. (w.0, w.1, (refl, refl, p))) back (says_same a.0 b.0 w.0)
     where
       back : (y : ℕ) (t : Second) → Breaks K N (record { head = Same a b; len = n; nodes = ns }) y t → ¬ (K (SameCell a.0 b.0))
-      back y second.None q = absurd q.1
-      back y (second.Item z) q = subst₂ (λ i j. ¬ (K (SameCell i j))) q.2.0 q.2.1 q.2.2
-  answers-head n ns (Differ a b) f w le = result-0 (atom (eq (first_item + a.0) (first_item + b.0)) end) (K (SameCell a.0 b.0)) (Breaks K N (record { head = Differ a b; len = n; nodes = ns })) a.0 (second.Item b) (λ p. (w.0, w.1, (refl, refl, p))) back (says-differ a.0 b.0 w.0)
+      back y None q = absurd q.1
+      back y (Some z) q = subst₂ (λ i j. ¬ (K (SameCell i j))) q.2.0 q.2.1 q.2.2
+  answers-head n ns (Differ a b) f w le = result-0 (atom (eq (first_item + a.0) (first_item + b.0)) end) (K (SameCell a.0 b.0)) (Breaks K N (record { head = Differ a b; len = n; nodes = ns })) a.0 (Some b) (λ p. (w.0, w.1, (refl, refl, p))) back (says-differ a.0 b.0 w.0)
     where
       back : (y : ℕ) (t : Second) → Breaks K N (record { head = Differ a b; len = n; nodes = ns }) y t → K (SameCell a.0 b.0)
-      back y second.None q = absurd q.1
-      back y (second.Item z) q = subst₂ (λ i j. K (SameCell i j)) q.2.0 q.2.1 q.2.2
+      back y None q = absurd q.1
+      back y (Some z) q = subst₂ (λ i j. K (SameCell i j)) q.2.0 q.2.1 q.2.2
 
   -- the answers of a rule's query are what breaks the rule
   pub answers-rule : (u : Rule) → HeadFits u.len u.head → HeadWithin N u.head → size (query_of u) ≤ item_limit

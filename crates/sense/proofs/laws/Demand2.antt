@@ -11,12 +11,12 @@ use Rattle.rule.specs.declared.Finding.{Finding}
 use Rattle.rule.specs.declared.Head.{Head}
 use Rattle.rule.specs.declared.Head.TheVariants.{Sub, RoleSub, Chain, Ref, Irr, Dis, In, Rel, NoRel, Same, Differ}
 use Rattle.rule.specs.declared.Rule.{Rule}
-use Rattle.rule.specs.declared.Second.{Second}
-use Rattle.rule.specs.declared.Second.TheVariants as second
+use Rattle.rule.specs.Second.{Second}
+use Rattle.std.specs.Prelude.{None, Some}
 use Rattle.rule.specs.declared.Slot.{Slot}
 use Rattle.rule.specs.Breaks.{Breaks}
 use Rattle.rule.specs.Findings.{Findings, finding_of}
-use Rattle.query.specs.declared.Outcome.TheVariants.{Compiled}
+use Rattle.query.specs.Outcome.{compiled_as}
 use Rattle.body.specs.Body.{flat, size}
 use Rattle.body.specs.Translation.{answers_of, query_of}
 use Rattle.query.specs.Promise.{Compilable, Compiles}
@@ -29,18 +29,18 @@ use Rattle.sense.proofs.laws.Answers.{answers-rule}
 module _ (C : Cell → Type 0) (n : Counts) where
   -- what breaks a rule shows in the answer variables
   shown-head : (len : ℕ) (ns : List Slot) (h : Head) (x : ℕ) (s : Second) → Breaks C n (record { head = h; len = len; nodes = ns }) x s → (xs : List ℕ) × Shown (answers_of h) x s xs
-  shown-head len ns (Sub c d) x second.None b = (x ∷ [], alone)
-  shown-head len ns (Sub c d) x (second.Item y) b = absurd b.2
-  shown-head len ns (RoleSub r q) x second.None b = absurd b.1
-  shown-head len ns (RoleSub r q) x (second.Item y) b = (x ∷ y.0 ∷ [], pair)
-  shown-head len ns (Chain k r1 r2 r3 r4 r) x second.None b = absurd b.1
-  shown-head len ns (Chain k r1 r2 r3 r4 r) x (second.Item y) b = (x ∷ y.0 ∷ [], pair)
-  shown-head len ns (Ref r) x second.None b = (x ∷ [], alone)
-  shown-head len ns (Ref r) x (second.Item y) b = absurd b.2
-  shown-head len ns (Irr r) x second.None b = (x ∷ [], alone)
-  shown-head len ns (Irr r) x (second.Item y) b = absurd b.2
-  shown-head len ns (Dis r q) x second.None b = absurd b.1
-  shown-head len ns (Dis r q) x (second.Item y) b = (x ∷ y.0 ∷ [], pair)
+  shown-head len ns (Sub c d) x None b = (x ∷ [], alone)
+  shown-head len ns (Sub c d) x (Some y) b = absurd b.2
+  shown-head len ns (RoleSub r q) x None b = absurd b.1
+  shown-head len ns (RoleSub r q) x (Some y) b = (x ∷ y.0 ∷ [], pair)
+  shown-head len ns (Chain k r1 r2 r3 r4 r) x None b = absurd b.1
+  shown-head len ns (Chain k r1 r2 r3 r4 r) x (Some y) b = (x ∷ y.0 ∷ [], pair)
+  shown-head len ns (Ref r) x None b = (x ∷ [], alone)
+  shown-head len ns (Ref r) x (Some y) b = absurd b.2
+  shown-head len ns (Irr r) x None b = (x ∷ [], alone)
+  shown-head len ns (Irr r) x (Some y) b = absurd b.2
+  shown-head len ns (Dis r q) x None b = absurd b.1
+  shown-head len ns (Dis r q) x (Some y) b = (x ∷ y.0 ∷ [], pair)
   shown-head len ns (In c a) x s b = ([], yes)
   shown-head len ns (Rel r a c) x s b = ([], yes)
   shown-head len ns (NoRel r a c) x s b = ([], yes)
@@ -55,14 +55,14 @@ module _ (C : Cell → Type 0) (n : Counts) where
   Place (Ref r) x s = ⊥
   Place (Irr r) x s = ⊥
   Place (Dis r q) x s = ⊥
-  Place (In c a) x s = (x ≡ a.0) × (s ≡ second.None)
-  Place (Rel r a b) x s = (x ≡ a.0) × (s ≡ second.Item b)
-  Place (NoRel r a b) x s = (x ≡ a.0) × (s ≡ second.Item b)
-  Place (Same a b) x s = (x ≡ a.0) × (s ≡ second.Item b)
-  Place (Differ a b) x s = (x ≡ a.0) × (s ≡ second.Item b)
+  Place (In c a) x s = (x ≡ a.0) × (s ≡ None)
+  Place (Rel r a b) x s = (x ≡ a.0) × (s ≡ Some b)
+  Place (NoRel r a b) x s = (x ≡ a.0) × (s ≡ Some b)
+  Place (Same a b) x s = (x ≡ a.0) × (s ≡ Some b)
+  Place (Differ a b) x s = (x ≡ a.0) × (s ≡ Some b)
 
-  item-is : (y b : Item) → y.0 ≡ b.0 → second.Item y ≡ second.Item b
-  item-is y b e = ap (λ (v : ℕ). second.Item (record { 0 = v })) e
+  item-is : (y b : Item) → y.0 ≡ b.0 → Some y ≡ Some b
+  item-is y b e = ap (λ (v : ℕ). Some (record { 0 = v })) e
 
   place-head : (len : ℕ) (ns : List Slot) (h : Head) (x : ℕ) (s : Second) → answers_of h ≡ 0 → Breaks C n (record { head = h; len = len; nodes = ns }) x s → Place h x s
   unfolding Place
@@ -72,16 +72,16 @@ module _ (C : Cell → Type 0) (n : Counts) where
   place-head len ns (Ref r) x s e b = omega arith
   place-head len ns (Irr r) x s e b = omega arith
   place-head len ns (Dis r q) x s e b = omega arith
-  place-head len ns (In c a) x second.None e b = (b.1.0, refl)
-  place-head len ns (In c a) x (second.Item y) e b = absurd b.2
-  place-head len ns (Rel r a c) x second.None e b = absurd b.1
-  place-head len ns (Rel r a c) x (second.Item y) e b = (b.2.0, item-is y c b.2.1)
-  place-head len ns (NoRel r a c) x second.None e b = absurd b.1
-  place-head len ns (NoRel r a c) x (second.Item y) e b = (b.2.0, item-is y c b.2.1)
-  place-head len ns (Same a c) x second.None e b = absurd b.1
-  place-head len ns (Same a c) x (second.Item y) e b = (b.2.0, item-is y c b.2.1)
-  place-head len ns (Differ a c) x second.None e b = absurd b.1
-  place-head len ns (Differ a c) x (second.Item y) e b = (b.2.0, item-is y c b.2.1)
+  place-head len ns (In c a) x None e b = (b.1.0, refl)
+  place-head len ns (In c a) x (Some y) e b = absurd b.2
+  place-head len ns (Rel r a c) x None e b = absurd b.1
+  place-head len ns (Rel r a c) x (Some y) e b = (b.2.0, item-is y c b.2.1)
+  place-head len ns (NoRel r a c) x None e b = absurd b.1
+  place-head len ns (NoRel r a c) x (Some y) e b = (b.2.0, item-is y c b.2.1)
+  place-head len ns (Same a c) x None e b = absurd b.1
+  place-head len ns (Same a c) x (Some y) e b = (b.2.0, item-is y c b.2.1)
+  place-head len ns (Differ a c) x None e b = absurd b.1
+  place-head len ns (Differ a c) x (Some y) e b = (b.2.0, item-is y c b.2.1)
 
   one_place : (h : Head) (x y : ℕ) (s t : Second) → Place h x s → Place h y t → (x ≡ y) × (s ≡ t)
   unfolding Place
@@ -119,7 +119,7 @@ module _ (C : Cell → Type 0) (n : Counts) where
   }
 
   -- what compiling promises is what the demand asks, over the cells of any store, closed ones among them
-  pub demand-2-query : {W number : ℕ} {u : Rule} {before after : List ℕ} {items k : ℕ} {fs : List Finding} → Compiles W n u before after (Compiled items k) → Findings C n number u fs
+  pub demand-2-query : {W number : ℕ} {u : Rule} {before after : List ℕ} {items k : ℕ} {fs : List Finding} → Compiles W n u before after (compiled_as items k) → Findings C n number u fs
       → SameAnswers C n k (take (4 * items) after) fs
   demand-2-query {W} {number} {u} {before} {after} {items} {k} {fs} (compiled d e) h =
       subst (λ ws. SameAnswers C n (answers_of u.head) ws fs)

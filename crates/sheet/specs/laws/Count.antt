@@ -12,7 +12,7 @@ use Rattle.rule.specs.Findings.{Findings}
 use Rattle.judge.specs.own.Search.{Starts}
 use Rattle.sheet.specs.declared.Ended.{Ended}
 use Rattle.line.specs.declared.Marks.{Marks}
-use Rattle.sheet.specs.declared.Reading.TheVariants as reading
+use Rattle.sheet.specs.Reading.{accepted_as, refused_as}
 use Rattle.sheet.specs.declared.RuleLine.{RuleLine}
 use Rattle.field.specs.Names.{counts_of}
 use Rattle.sheet.specs.own.Pass.{Counted, Judges, Next, NextRule, Opened, Passing, Paused, Totalled, Wholly, counted_in, found_rule}
@@ -106,11 +106,11 @@ counted-few h z = omega (arith, ap counted_in z.answer, few-findings h z.finding
 -- ---- the whole sheet
 
 -- a store of another length
-pub whole-size : (sheet s numbers : List ℕ) (c : Counts) (b : Start) → Tidy sheet (table_of numbers c) → ¬ (length s ≡ size (width_of s)) → Wholly sheet s s numbers (record { answer = reading.Refused 0 1; counts = c; start = b })
+pub whole-size : (sheet s numbers : List ℕ) (c : Counts) (b : Start) → Tidy sheet (table_of numbers c) → ¬ (length s ≡ size (width_of s)) → Wholly sheet s s numbers (record { answer = refused_as 0 1; counts = c; start = b })
 whole-size sheet s numbers c b h z = record { reads = wrong_size z refl; tidy = h; names = λ x l o. absurd (z l); start = λ x l o. absurd (z l) }
 
 reads_as : {sheet s t : List ℕ} {x : Said} {fs : List Finding} {n : Counts} {m k : ℕ} → n ≡ counts_of x.names → m ≡ length x.rules → k ≡ length fs → length s ≡ size (width_of s) → outcome (width_of s) sheet ≡ accepted x → Held (width_of s) x t
-    → FindingsIn (width_of s) x t fs → Reads sheet s t (reading.Accepted n m k)
+    → FindingsIn (width_of s) x t fs → Reads sheet s t (accepted_as n m k)
 reads_as e f g l o h a = rw (e, f, g) (accepted_read l o h a)
 
 -- an accepted sheet: its outcome, its store, its counts
@@ -128,7 +128,7 @@ module _ {W : ℕ} {sheet s numbers t : List ℕ} {e : Ended} (w : Opens W sheet
   opens-judges = record { tidy = w.tidy; sheet_said = record { width = W; said = w.said; ends = opens-outcome; names = w.names }; with = refl; store = rw opens-counts at opens-held.store }
 
   pub whole-accepted : {total : ℕ} → W ≡ width_of s → length s ≡ size W → Totalled W sheet (kept_table numbers e) t total
-      → Wholly sheet s t numbers (record { answer = reading.Accepted e.kept.counts e.kept.marks.rules total; counts = e.kept.counts; start = e.start })
+      → Wholly sheet s t numbers (record { answer = accepted_as e.kept.counts e.kept.marks.rules total; counts = e.kept.counts; start = e.start })
   whole-accepted {total} v long c =
       let a = c w.said opens-outcome w.names in
       let o : outcome (width_of s) sheet ≡ accepted w.said = subst (λ (v : ℕ). outcome v sheet ≡ accepted w.said) v opens-outcome in
@@ -142,7 +142,7 @@ module _ {W : ℕ} {sheet s numbers t : List ℕ} {e : Ended} (w : Opens W sheet
 
 -- a refused one
 pub whole-refused : {W : ℕ} {sheet s numbers t : List ℕ} {e : Ended} → W ≡ width_of s → length s ≡ size W → Opens W sheet s numbers t e → (e.why ≡ 0 → ⊥)
-    → Wholly sheet s t numbers (record { answer = reading.Refused e.line e.why; counts = e.kept.counts; start = e.start })
+    → Wholly sheet s t numbers (record { answer = refused_as e.line e.why; counts = e.kept.counts; start = e.start })
 whole-refused {W} {sheet} {s} {t = t} {e = e} v long w z =
     let o : outcome W sheet ≡ refused e.line e.why w.said = w.ends ∙ rw (ne_eqb _ _ z) in
     let q = subst (λ (v : ℕ). outcome v sheet ≡ refused e.line e.why w.said) v o in

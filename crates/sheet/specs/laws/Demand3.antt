@@ -9,8 +9,8 @@ use Rattle.store.specs.Keeps.{Keeps}
 use Rattle.store.specs.laws.Cells.{keeps-unique}
 use Rattle.store.specs.laws.Keeps.{keeps-iff}
 use Rattle.rule.specs.declared.Finding.{Finding}
-use Rattle.sheet.specs.declared.Reading.{Reading}
-use Rattle.sheet.specs.declared.Reading.TheVariants as reading
+use Rattle.sheet.specs.Reading.{Reading}
+use Rattle.sheet.specs.Reading.{accepted_as}
 use Rattle.line.specs.declared.Marks.{Marks}
 use Rattle.sheet.specs.Demand3.{Rearranged, SameStatements, SheetDemand3, Sizes}
 use Rattle.line.specs.Fault.{begun, sheet_limit}
@@ -43,11 +43,11 @@ unchanged {W} {t = t} {x = x} l e b r = subst (λ (z : Bool). Stopped W z x t) b
 
 -- the store and the findings of an accepted sheet, and its answer
 reads-found : {W : ℕ} {sheet s t : List ℕ} {x : Said} {r : Reading} → Sizes W s → outcome W sheet ≡ accepted x → Reads sheet s t r
-    → (fs : List Finding) × Held W x t × FindingsIn W x t fs × (r ≡ reading.Accepted (counts_of x.names) (length x.rules) (length fs))
+    → (fs : List Finding) × Held W x t × FindingsIn W x t fs × (r ≡ accepted_as (counts_of x.names) (length x.rules) (length fs))
 reads-found l e (wrong_size z q) = absurd (z (l.long ∙ sym (ap size l.width)))
 reads-found l e (refused_read h i p) = absurd (not-both (sym (rw l.width at i) ∙ e))
 reads-found {W} {t = t} l e (accepted_read {x = y} {fs = fs} h i p a) =
-    subst (λ (z : Said). (gs : List Finding) × Held W z t × FindingsIn W z t gs × (reading.Accepted (counts_of y.names) (length y.rules) (length fs) ≡ reading.Accepted (counts_of z.names) (length z.rules) (length gs))) (ap said_of (sym (rw l.width at i) ∙ e))
+    subst (λ (z : Said). (gs : List Finding) × Held W z t × FindingsIn W z t gs × (accepted_as (counts_of y.names) (length y.rules) (length fs) ≡ accepted_as (counts_of z.names) (length z.rules) (length gs))) (ap said_of (sym (rw l.width at i) ∙ e))
     (fs, rw l.width at p, rw l.width at a, refl)
 
 -- statement lines in another order, or said again, leave the same store and give the same answer
@@ -65,8 +65,8 @@ rearranged-reads {W} {t = t} {v = v} {x = x} w h l m a b e r q =
     let found : f.0 ≡ g.0 = from-unique f.2 (subst (λ (c : List ℕ). FindingsIn W x c g.0) (sym store) named) in (
       store,
       f.3
-          ∙ ap₂ {C = Reading} (λ (n : Names) (fs : List Finding). reading.Accepted (counts_of n) (length x.rules) (length fs)) same.names found
-          ∙ ap (λ (k : Marks). reading.Accepted (counts_of y.names) k.rules (length g.0)) (same-marks x y same)
+          ∙ ap₂ {C = Reading} (λ (n : Names) (fs : List Finding). accepted_as (counts_of n) (length x.rules) (length fs)) same.names found
+          ∙ ap (λ (k : Marks). accepted_as (counts_of y.names) k.rules (length g.0)) (same-marks x y same)
           ∙ sym g.3,
     )
 

@@ -7,8 +7,8 @@ use Rattle.store.specs.Cell.{Cell}
 use Rattle.store.specs.laws.Cells.{keeps-unique}
 use Rattle.rule.specs.declared.Finding.{Finding}
 use Rattle.rule.specs.laws.Findings.{findings-unique}
-use Rattle.sheet.specs.declared.Reading.{Reading}
-use Rattle.sheet.specs.declared.Reading.TheVariants as reading
+use Rattle.sheet.specs.Reading.{Reading}
+use Rattle.sheet.specs.Reading.{accepted_as, refused_as}
 use Rattle.line.specs.Fault.{begun}
 use Rattle.field.specs.Names.{counts_of}
 use Rattle.store.specs.Layout.{width_of}
@@ -57,14 +57,14 @@ reads-unique v w (wrong_size z e) (accepted_read l o p a) = absurd (z l)
 reads-unique v w (refused_read l o p) (wrong_size z e) = absurd (z l)
 reads-unique {s = s} {u = u} v w (refused_read {n = n} {k = k} {x = x} l o p) (refused_read {n = m} {k = j} {x = y} h i q) =
     let same : refused n k x ≡ refused m j y = sym o ∙ i in
-    (leaves-unique (width_of s) (refused n k x) s v w p (subst (λ (z : Outcome). Leaves (width_of s) z s u) (sym same) q), ap₂ reading.Refused (ap line_in same) (ap number_in same))
+    (leaves-unique (width_of s) (refused n k x) s v w p (subst (λ (z : Outcome). Leaves (width_of s) z s u) (sym same) q), ap₂ refused_as (ap line_in same) (ap number_in same))
 reads-unique v w (refused_read l o p) (accepted_read h i q a) = absurd (not-both (sym o ∙ i))
 reads-unique v w (accepted_read l o p a) (wrong_size z e) = absurd (z l)
 reads-unique v w (accepted_read l o p a) (refused_read h i q) = absurd (not-both (sym i ∙ o))
 reads-unique v w (accepted_read {x = x} {fs = fs} l o p a) (accepted_read {x = y} {fs = gs} h i q b) =
     let same : y ≡ x = ap said_of (sym i ∙ o) in
     let z = found-unique same v w p q a b in
-    (z.0, ap₂ {C = Reading} (λ (d : Said) (hs : List Finding). reading.Accepted (counts_of d.names) (length d.rules) (length hs)) (sym same) z.1)
+    (z.0, ap₂ {C = Reading} (λ (d : Said) (hs : List Finding). accepted_as (counts_of d.names) (length d.rules) (length hs)) (sym same) z.1)
 
 -- one text is printed
 pub prints-unique : {W : ℕ} {sheet text other : List ℕ} → Prints W sheet text → Prints W sheet other → text ≡ other

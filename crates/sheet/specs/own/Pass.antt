@@ -4,8 +4,8 @@ use Rattle.text.specs.Split.{fields}
 use Rattle.text.specs.own.Split.{parts_from}
 use Rattle.store.specs.Layout.{ClosedStore, Holds, size, width_of}
 use Rattle.rule.specs.declared.Finding.{Finding}
-use Rattle.judge.specs.declared.Total.{Total}
-use Rattle.judge.specs.declared.Total.TheVariants.{Count, Refused}
+use Rattle.judge.specs.Total.{Total}
+use Rattle.std.specs.Prelude.{Err, Ok}
 use Rattle.field.specs.declared.Form.{Form}
 use Rattle.field.specs.declared.Form.TheVariants as form
 use Rattle.sheet.specs.declared.RuleLine.{RuleLine}
@@ -81,8 +81,8 @@ pub record Opened (sheet : List ℕ) (t : Table) (r : RuleLine) : Type 0 where
 
 -- the findings that an answer counts
 abbrev pub counted_in : Total → ℕ
-counted_in (Count m) = m
-counted_in (Refused k) = 0
+counted_in (Ok m) = m
+counted_in (Err k) = 0
 
 -- the rules `done` of the sheet x have so many findings in the store t
 pub record Counted (W : ℕ) (x : Said) (t : List ℕ) (done : List SheetRule) (total : ℕ) : Type 0 where

@@ -5,8 +5,10 @@ use Rattle.store.specs.declared.Counts.{Counts}
 use Rattle.store.specs.Layout.{ClosedStore, Holds, size, width_of}
 use Rattle.store.specs.laws.Width.{width_same}
 use Rattle.rule.specs.declared.Finding.{Finding}
-use Rattle.sheet.specs.declared.Reading.{Reading}
-use Rattle.sheet.specs.declared.Reading.TheVariants.{Accepted, Refused}
+use Rattle.std.specs.Prelude.{Ok, Err}
+use Rattle.sheet.specs.declared.Accepted.{Accepted}
+use Rattle.sheet.specs.declared.Refused.{Refused}
+use Rattle.sheet.specs.Reading.{Reading, accepted_as}
 use Rattle.sheet.specs.declared.Whole.{Whole}
 use Rattle.field.specs.Names.{counts_of}
 use Rattle.sheet.specs.own.Pass.{Passing, Paused, Wholly}
@@ -23,13 +25,13 @@ use Rattle.trail.specs.own.Trail.Begins.{refused, accepted}
 
 -- the findings that an answer counts
 abbrev total_in : Reading → ℕ
-total_in (Accepted n m k) = k
-total_in (Refused n k) = 0
+total_in (Ok a) = a.findings
+total_in (Err r) = 0
 
 -- 1 for a refusal, 0 for an accepted sheet
 abbrev pub is_refused : Reading → ℕ
-is_refused (Accepted n m k) = 0
-is_refused (Refused n k) = 1
+is_refused (Ok a) = 0
+is_refused (Err r) = 1
 
 -- a sheet that was read and accepted
 record AcceptedRead (sheet s t : List ℕ) (r : Reading) : Type 0 where
@@ -39,7 +41,7 @@ record AcceptedRead (sheet s t : List ℕ) (r : Reading) : Type 0 where
   ends : outcome (width_of s) sheet ≡ accepted_sheet said
   held : Held (width_of s) said t
   findings : FindingsIn (width_of s) said t list
-  answer : r ≡ Accepted (counts_of said.names) (length said.rules) (length list)
+  answer : r ≡ accepted_as (counts_of said.names) (length said.rules) (length list)
 
 -- an answer that is no refusal is of that form
 reads-accepted : {sheet s t : List ℕ} {r : Reading} → is_refused r ≡ 0 → Reads sheet s t r → AcceptedRead sheet s t r
@@ -53,7 +55,7 @@ module _ {sheet s t numbers : List ℕ} {w : Whole} (z : Wholly sheet s t number
   table = table_of numbers w.counts
 
   -- the sheet is accepted
-  module _ {n : Counts} {m k : ℕ} (e : w.answer ≡ Accepted n m k) where
+  module _ {a : Accepted} (e : w.answer ≡ Ok a) where
     -- how it was read
     read-so : AcceptedRead sheet s t w.answer
     read-so = reads-accepted (ap is_refused e) z.reads
@@ -81,10 +83,10 @@ module _ {sheet s t numbers : List ℕ} {w : Whole} (z : Wholly sheet s t number
     opens-paused = record { all = read-so.said; before = []; passing = passing }
 
     -- the reading with a list begins at the first of all findings
-    pub opens-accepted : {c : Trail} {i : ℕ} (room : ℕ) → i ≡ min k room → Sought sheet numbers w.counts t w.start.at w.start.line 0 c
-        → Opens sheet s t numbers room (record { answer = Accepted n m k; write = i; trail = c })
+    pub opens-accepted : {c : Trail} {i : ℕ} (room : ℕ) → i ≡ min a.findings room → Sought sheet numbers w.counts t w.start.at w.start.line 0 c
+        → Opens sheet s t numbers room (record { answer = Ok a; write = i; trail = c })
     opens-accepted {c} {i} room h f =
-        let total : k ≡ length read-so.list = ap total_in (sym e ∙ read-so.answer) in
+        let total : a.findings ≡ length read-so.list = ap total_in (sym e ∙ read-so.answer) in
         record {
           fits = omega (arith, h);
           going = λ _. f.going;
@@ -100,5 +102,5 @@ module _ {sheet s t numbers : List ℕ} {w : Whole} (z : Wholly sheet s t number
         }
 
   -- it is refused
-  pub opens-refused : {c : Trail} {n k : ℕ} (room : ℕ) → w.answer ≡ Refused n k → Opens sheet s t numbers room (record { answer = w.answer; write = 0; trail = c })
+  pub opens-refused : {c : Trail} {r : Refused} (room : ℕ) → w.answer ≡ Err r → Opens sheet s t numbers room (record { answer = w.answer; write = 0; trail = c })
   opens-refused room e = record { fits = omega arith; going = λ h. absurd (omega arith); begins = refused (subst (Reads sheet s t) e z.reads) e refl }

@@ -5,7 +5,7 @@ use Rattle.store.specs.Layout.{ClosedStore, Holds, size, width_of}
 use Rattle.rule.specs.declared.Finding.{Finding}
 use Rattle.judge.specs.declared.Search.{Search}
 use Rattle.judge.specs.own.Search.{Coming, Ready}
-use Rattle.sheet.specs.declared.Reading.TheVariants.{Accepted, Refused}
+use Rattle.sheet.specs.Reading.{accepted_as, refused_as}
 use Rattle.sheet.specs.own.Pass.{Passing, Paused}
 use Rattle.field.specs.Names.{counts_of}
 use Rattle.sheet.specs.Promise.{FindingsFrom, FindingsIn, Held, Reads}
@@ -95,9 +95,9 @@ pub record Sought (sheet numbers : List ℕ) (n : Counts) (s : List ℕ) (past l
 
 -- how a reading with a list of `room` places begins: refused, with nothing to write; or at the first of all findings
 pub data Begins (sheet s t numbers : List ℕ) (room : ℕ) (p : Opening) : Type 0 where
-  refused : {n k : ℕ} → Reads sheet s t (Refused n k) → p.answer ≡ Refused n k → p.write ≡ 0 → Begins sheet s t numbers room p
+  refused : {n k : ℕ} → Reads sheet s t (refused_as n k) → p.answer ≡ refused_as n k → p.write ≡ 0 → Begins sheet s t numbers room p
   accepted : {x : Said} {fs : List Finding} → length s ≡ size (width_of s) → outcome (width_of s) sheet ≡ accepted_sheet x → Held (width_of s) x t → FindingsIn (width_of s) x t fs
-      → p.answer ≡ Accepted (counts_of x.names) (length x.rules) (length fs) → p.write ≡ min (length fs) room → Onward sheet numbers t p.trail fs → Begins sheet s t numbers room p
+      → p.answer ≡ accepted_as (counts_of x.names) (length x.rules) (length fs) → p.write ≡ min (length fs) room → Onward sheet numbers t p.trail fs → Begins sheet s t numbers room p
 
 -- the same with what the writer asks
 pub record Opens (sheet s t numbers : List ℕ) (room : ℕ) (p : Opening) : Type 0 where

@@ -6,7 +6,7 @@ use Rattle.store.specs.Layout.{size}
 use Rattle.rule.specs.declared.Finding.{Finding}
 use Rattle.judge.specs.Promise.{filled}
 use Rattle.field.specs.Names.{counts_of}
-use Rattle.sheet.specs.declared.Reading.{Reading}
+use Rattle.sheet.specs.Reading.{Reading}
 use Rattle.sheet.specs.Demand3.{Sizes}
 use Rattle.sheet.specs.Promise.{FindingsFrom, FindingsIn, Held, Prints, Reads}
 use Rattle.sheet.specs.Promise.Prints.{refused as refused_print, accepted as accepted_print}

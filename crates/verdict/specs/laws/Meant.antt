@@ -8,8 +8,8 @@ use Rattle.rule.specs.declared.Head.{Head}
 use Rattle.rule.specs.declared.Head.TheVariants as head
 use Rattle.rule.specs.declared.RoleUse.{RoleUse}
 use Rattle.rule.specs.declared.Rule.{Rule}
-use Rattle.rule.specs.declared.Second.{Second}
-use Rattle.rule.specs.declared.Second.TheVariants as second
+use Rattle.rule.specs.Second.{Second}
+use Rattle.std.specs.Prelude.{None, Some}
 use Rattle.rule.specs.declared.Slot.{Slot}
 use Rattle.rule.specs.Expr.{Expr}
 use Rattle.saying.specs.Meant.{Meant, head_meaning, meaning_of}
@@ -19,20 +19,20 @@ use Rattle.paper.specs.Satisfied.{ValueBreaks}
 
 -- the same table as `ValueBreaks`, said of what a rule means
 data MeantBreaks (n : Counts) (U : Interpretation → Type 1) (I : Interpretation) : Meant → ℕ → Second → Type 1 where
-  sub : {c d : Expr} {x : ℕ} → DeclaredItem n x → KnownOf n U I c (I.item x) → ¬ (KnownOf n U I d (I.item x)) → MeantBreaks n U I (Meant.sub c d) x second.None
+  sub : {c d : Expr} {x : ℕ} → DeclaredItem n x → KnownOf n U I c (I.item x) → ¬ (KnownOf n U I d (I.item x)) → MeantBreaks n U I (Meant.sub c d) x None
   rsub : {r s : RoleUse} {x : ℕ} {y : Item} → DeclaredItem n x → DeclaredItem n y.0 → KnownRole n U I r (I.item x) (I.item y.0) → ¬ (KnownRole n U I s (I.item x) (I.item y.0))
-      → MeantBreaks n U I (Meant.rsub r s) x (second.Item y)
+      → MeantBreaks n U I (Meant.rsub r s) x (Some y)
   chain : {path : List RoleUse} {r : RoleUse} {x : ℕ} {y : Item} → DeclaredItem n x → DeclaredItem n y.0 → Composed n U I path (I.item x) (I.item y.0)
-      → ¬ (KnownRole n U I r (I.item x) (I.item y.0)) → MeantBreaks n U I (Meant.chain path r) x (second.Item y)
-  ref : {r : RoleUse} {x : ℕ} → DeclaredItem n x → ¬ (KnownRole n U I r (I.item x) (I.item x)) → MeantBreaks n U I (Meant.ref r) x second.None
-  irr : {r : RoleUse} {x : ℕ} → DeclaredItem n x → KnownRole n U I r (I.item x) (I.item x) → MeantBreaks n U I (Meant.irr r) x second.None
+      → ¬ (KnownRole n U I r (I.item x) (I.item y.0)) → MeantBreaks n U I (Meant.chain path r) x (Some y)
+  ref : {r : RoleUse} {x : ℕ} → DeclaredItem n x → ¬ (KnownRole n U I r (I.item x) (I.item x)) → MeantBreaks n U I (Meant.ref r) x None
+  irr : {r : RoleUse} {x : ℕ} → DeclaredItem n x → KnownRole n U I r (I.item x) (I.item x) → MeantBreaks n U I (Meant.irr r) x None
   dis : {r s : RoleUse} {x : ℕ} {y : Item} → DeclaredItem n x → DeclaredItem n y.0 → KnownRole n U I r (I.item x) (I.item y.0) → KnownRole n U I s (I.item x) (I.item y.0)
-      → MeantBreaks n U I (Meant.dis r s) x (second.Item y)
-  isin : {c : Expr} {a : Item} → ¬ (KnownOf n U I c (I.item a.0)) → MeantBreaks n U I (Meant.isin c a) a.0 second.None
-  rel : {r : RoleUse} {a b : Item} → ¬ (KnownRole n U I r (I.item a.0) (I.item b.0)) → MeantBreaks n U I (Meant.rel r a b) a.0 (second.Item b)
-  norel : {r : RoleUse} {a b : Item} → KnownRole n U I r (I.item a.0) (I.item b.0) → MeantBreaks n U I (Meant.norel r a b) a.0 (second.Item b)
-  same : {a b : Item} → ¬ (Equal (I.item a.0) (I.item b.0)) → MeantBreaks n U I (Meant.same a b) a.0 (second.Item b)
-  differ : {a b : Item} → Equal (I.item a.0) (I.item b.0) → MeantBreaks n U I (Meant.differ a b) a.0 (second.Item b)
+      → MeantBreaks n U I (Meant.dis r s) x (Some y)
+  isin : {c : Expr} {a : Item} → ¬ (KnownOf n U I c (I.item a.0)) → MeantBreaks n U I (Meant.isin c a) a.0 None
+  rel : {r : RoleUse} {a b : Item} → ¬ (KnownRole n U I r (I.item a.0) (I.item b.0)) → MeantBreaks n U I (Meant.rel r a b) a.0 (Some b)
+  norel : {r : RoleUse} {a b : Item} → KnownRole n U I r (I.item a.0) (I.item b.0) → MeantBreaks n U I (Meant.norel r a b) a.0 (Some b)
+  same : {a b : Item} → ¬ (Equal (I.item a.0) (I.item b.0)) → MeantBreaks n U I (Meant.same a b) a.0 (Some b)
+  differ : {a b : Item} → Equal (I.item a.0) (I.item b.0) → MeantBreaks n U I (Meant.differ a b) a.0 (Some b)
 
 module _ {n : Counts} {U : Interpretation → Type 1} {I : Interpretation} (ns : List Slot) where
   to-meant : {h : Head} {a : ℕ} {b : Second} → ValueBreaks n U I ns h a b → MeantBreaks n U I (head_meaning ns h) a b

@@ -17,8 +17,8 @@ use Rattle.rule.specs.declared.Head.{Head}
 use Rattle.rule.specs.declared.Head.TheVariants.{Sub, RoleSub, Chain, Ref, Irr, Dis, In, Rel, NoRel, Same, Differ}
 use Rattle.rule.specs.declared.RoleUse.{RoleUse}
 use Rattle.rule.specs.declared.Rule.{Rule}
-use Rattle.rule.specs.declared.Second.{Second}
-use Rattle.rule.specs.declared.Second.TheVariants as second
+use Rattle.rule.specs.Second.{Second}
+use Rattle.std.specs.Prelude.{None, Some}
 use Rattle.rule.specs.declared.Slot.{Slot}
 use Rattle.rule.specs.Breaks.{Breaks, BreaksAlone, BreaksPair, Path}
 use Rattle.rule.specs.Expr.{expr_of}
@@ -61,12 +61,12 @@ some? {A} {P} a = go a.all a.sound a.whole
 
 -- the second item j
 abbrev second_of : ℕ → Second
-second_of j = second.Item (record { 0 = j })
+second_of j = Some (record { 0 = j })
 
 -- seconds as numbers
 abbrev rank : Second → ℕ
-rank second.None = 0
-rank (second.Item j) = suc j.0
+rank None = 0
+rank (Some j) = suc j.0
 
 -- what can be told of each place, and holds only of items below m
 module _ {B : ℕ × Second → Type 0} (tell : (p : ℕ × Second) → Dec (B p)) (m : ℕ) (inside : (x : ℕ) (s : Second) → B (x, s) → x < m) (inside_too : (x j : ℕ) → B (x, second_of j) → j < m) where
@@ -83,20 +83,20 @@ module _ {B : ℕ × Second → Type 0} (tell : (p : ℕ × Second) → Dec (B p
   pairs-hold x p q = (ap (λ (r : ℕ × Second). r.0) q.2, subst B (sym q.2) q.1.1)
 
   -- a place of an item is the item alone, or one of its pairs
-  alone-or-pair : (x y : ℕ) (s : Second) → y ≡ x → B (y, s) → (◌≡◌ {A = ℕ × Second} (y, s) (x, second.None)) ⊎ Pairs x (y, s)
+  alone-or-pair : (x y : ℕ) (s : Second) → y ≡ x → B (y, s) → (◌≡◌ {A = ℕ × Second} (y, s) (x, None)) ⊎ Pairs x (y, s)
   unfolding Pairs
-  alone-or-pair x y second.None e b = inl (ap (λ (z : ℕ). (z, second.None)) e)
-  alone-or-pair x y (second.Item i) e b = inr (i.0, (inside_too y i.0 b, subst (λ (z : ℕ). B (z, second.Item i)) e b), ap (λ (z : ℕ). (z, second.Item i)) e)
+  alone-or-pair x y None e b = inl (ap (λ (z : ℕ). (z, None)) e)
+  alone-or-pair x y (Some i) e b = inr (i.0, (inside_too y i.0 b, subst (λ (z : ℕ). B (z, Some i)) e b), ap (λ (z : ℕ). (z, Some i)) e)
 
-  not-pair : (x : ℕ) → ¬ (Pairs x (x, second.None))
+  not-pair : (x : ℕ) → ¬ (Pairs x (x, None))
   unfolding Pairs
   not-pair x q = omega (arith, ap (λ (r : ℕ × Second). rank r.1) q.2)
 
   -- the places of one item
   row : (x : ℕ) → (k : ℕ) × Number (λ (p : ℕ × Second). (p.0 ≡ x) × B p) k
-  row x = go (tell (x, second.None)) (pairs x)
+  row x = go (tell (x, None)) (pairs x)
     where
-      go : Dec (B (x, second.None)) → (k : ℕ) × Number (Pairs x) k → (k : ℕ) × Number (λ (p : ℕ × Second). (p.0 ≡ x) × B p) k
+      go : Dec (B (x, None)) → (k : ℕ) × Number (Pairs x) k → (k : ℕ) × Number (λ (p : ℕ × Second). (p.0 ≡ x) × B p) k
       go (yes b) r = (
         suc r.0,
         number-iff (λ p. ⊎_elim (λ e. (ap (λ (q : ℕ × Second). q.0) e, subst B (sym e) b)) (pairs-hold x p)) (λ p q. alone-or-pair x p.0 p.1 q.0 q.1) (number_more (not-pair x) r.1),
@@ -161,13 +161,13 @@ module _ {n : Counts} {C : Cell → Type 0} (o : Obeys n C) (tell : (c : Cell) �
 
   -- whether a place breaks a rule
   breaks? : (u : Rule) (x : ℕ) (s : Second) → Dec (Breaks C n u x s)
-  breaks? u x second.None = Dec.and (dec_lt x n.items) (alone? u.nodes u.head x)
-  breaks? u x (second.Item y) = three? (dec_lt x n.items) (dec_lt y.0 n.items) (pair? u.head x y.0)
+  breaks? u x None = Dec.and (dec_lt x n.items) (alone? u.nodes u.head x)
+  breaks? u x (Some y) = three? (dec_lt x n.items) (dec_lt y.0 n.items) (pair? u.head x y.0)
 
   -- it is one of declared items
   breaks-inside : (u : Rule) (x : ℕ) (s : Second) → Breaks C n u x s → DeclaredItem n x
-  breaks-inside u x second.None b = b.0
-  breaks-inside u x (second.Item y) b = b.0
+  breaks-inside u x None b = b.0
+  breaks-inside u x (Some y) b = b.0
 
   -- the findings of rules, the first of which has the number k
   pub all-findings : (k : ℕ) (rs : List SheetRule) → (fs : List Finding) × FindingsFrom C n k rs fs

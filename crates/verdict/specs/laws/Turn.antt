@@ -7,8 +7,8 @@ use Rattle.logic.specs.laws.Number.{one-cases, one_none}
 use Rattle.store.specs.declared.Counts.{Counts}
 use Rattle.store.specs.Cell.{Cell}
 use Rattle.rule.specs.declared.Finding.{Finding}
-use Rattle.rule.specs.declared.Second.{Second}
-use Rattle.rule.specs.declared.Second.TheVariants as second
+use Rattle.rule.specs.Second.{Second}
+use Rattle.std.specs.Prelude.{None, Some}
 use Rattle.rule.specs.Breaks.{Breaks}
 use Rattle.rule.specs.Findings.{Before, InOrder, SecondBefore, finding_of}
 use Rattle.rule.specs.Findings.InOrder.{none as order-none, more as order-more}
@@ -23,8 +23,8 @@ use Rattle.verdict.specs.Violations.InTurn.{none, more}
 -- ---- one list in order
 
 second-itself : (s : Second) → ¬ (SecondBefore s s)
-second-itself second.None x = x
-second-itself (second.Item i) x = omega arith
+second-itself None x = x
+second-itself (Some i) x = omega arith
 
 -- no finding comes before itself
 before-itself : (f : Finding) → ¬ (Before f f)

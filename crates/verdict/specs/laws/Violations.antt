@@ -6,7 +6,7 @@ use Rattle.logic.specs.Number.One.{first}
 use Rattle.store.specs.Cell.{Cell}
 use Rattle.rule.specs.declared.Finding.{Finding}
 use Rattle.rule.specs.declared.Rule.{Rule}
-use Rattle.rule.specs.declared.Second.{Second}
+use Rattle.rule.specs.Second.{Second}
 use Rattle.rule.specs.Breaks.{Breaks}
 use Rattle.rule.specs.Findings.{finding_of}
 use Rattle.field.specs.Names.{counts_of}

@@ -13,8 +13,9 @@ use Rattle.sheet.specs.laws.Count.{opens-held, opens-outcome, whole-refused}
 use Rattle.sheet.specs.laws.Pass.{accepted-same}
 use Rattle.field.specs.own.Table.{Table}
 use Rattle.field.specs.laws.Table.{counts_of-names_of}
-use Rattle.why.specs.declared.Explained.{Explained}
-use Rattle.why.specs.declared.Explained.TheVariants.{Lines, Refused}
+use Rattle.why.specs.Explained.{Explained}
+use Rattle.sheet.specs.Reading.{refusal_as}
+use Rattle.std.specs.Prelude.{Ok, Err}
 use Rattle.why.specs.Listed.{lines_of}
 use Rattle.why.specs.laws.Listed.{listed-none}
 use Rattle.why.specs.own.Asked.{Asked, Of, ReasonMarked}
@@ -34,7 +35,7 @@ opens-counts {sheet} {numbers = numbers} {e = e} w = ap counts_of w.names ∙ co
 
 module _ {sheet s numbers u : List ℕ} {e : Ended} (w : Opens (width_of s) sheet s numbers u e) (long : length s ≡ size (width_of s)) (c : Cell) (before : List ℕ) where
   -- a refused sheet
-  pub explains-refused : (e.why ≡ 0 → ⊥) → Explains sheet s u c before before (Refused e.line e.why)
+  pub explains-refused : (e.why ≡ 0 → ⊥) → Explains sheet s u c before before (Err (refusal_as e.line e.why))
   explains-refused z = refused (whole-refused refl long w z).reads refl
 
   -- an accepted one
@@ -46,7 +47,7 @@ module _ {sheet s numbers u : List ℕ} {e : Ended} (w : Opens (width_of s) shee
     explains-accepts = record { width = width_of s; said = w.said; ends = opens-outcome w z; names = w.names }
 
     -- the cell is not true
-    pub explains-not : ¬ (Holds (width_of s) e.kept.counts u c) → Explains sheet s u c before before (Refused 0 24)
+    pub explains-not : ¬ (Holds (width_of s) e.kept.counts u c) → Explains sheet s u c before before (Err (refusal_as 0 24))
     explains-not h = not-true long (opens-outcome w z) (opens-held w z) (rw counts-are h) refl
 
     -- it is true: it follows
@@ -59,11 +60,11 @@ module _ {sheet s numbers u : List ℕ} {e : Ended} (w : Opens (width_of s) shee
     explains-asked h = record { tidy = w.tidy; sheet_said = explains-accepts; follows = explains-followed h }
 
     -- a reason is found
-    pub explains-found : {after : List ℕ} {r : ℕ} → Answered sheet (kept_table numbers e) c before after r → Explains sheet s u c before after (Lines r)
+    pub explains-found : {after : List ℕ} {r : ℕ} → Answered sheet (kept_table numbers e) c before after r → Explains sheet s u c before after (Ok r)
     explains-found {after} h =
         let o = opens-outcome w z in
         let a = h (width_of s) w.said o w.names in
-        subst (λ (k : ℕ). Explains sheet s u c before after (Lines k)) (sym a.total)
+        subst (λ (k : ℕ). Explains sheet s u c before after (Ok k)) (sym a.total)
         (found long o (opens-held w z) (subst (λ (n : Counts). Reason n c w.said.statements a.lines) (sym counts-are) a.reason) a.listed)
 
 -- a list of no place gets what another does

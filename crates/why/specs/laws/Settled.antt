@@ -5,8 +5,8 @@ use Rattle.row.specs.Bit.{Words}
 use Rattle.store.specs.Cell.{Cell}
 use Rattle.store.specs.Layout.{Holds, size, width_of}
 use Rattle.store.specs.laws.Cells.{keeps-unique}
-use Rattle.sheet.specs.declared.Reading.{Reading}
-use Rattle.sheet.specs.declared.Reading.TheVariants as reading
+use Rattle.sheet.specs.Reading.{Reading, refused_as}
+use Rattle.std.specs.Prelude.{Ok, Err}
 use Rattle.field.specs.Names.{counts_of}
 use Rattle.sheet.specs.Promise.{Held, Reads}
 use Rattle.sheet.specs.Promise.Reads.{wrong_size, refused as refused_read, accepted as accepted_read}
@@ -14,7 +14,7 @@ use Rattle.sheet.specs.Said.{Said, SheetStatement, outcome}
 use Rattle.sheet.specs.Said.Outcome.{accepted}
 use Rattle.sheet.specs.laws.Pass.{not-both, said_of}
 use Rattle.sheet.specs.laws.Unique.{reads-unique}
-use Rattle.why.specs.declared.Explained.{Explained}
+use Rattle.why.specs.Explained.{Explained}
 use Rattle.why.specs.Promise.{Explains}
 use Rattle.why.specs.Promise.Explains.{refused, not-true, found}
 use Rattle.why.specs.Settled.{SameAnswer}
@@ -24,8 +24,8 @@ use Rattle.why.specs.laws.Reason.{follows-grows}
 
 -- an accepted sheet is not refused
 abbrev pub IsRefused : Reading → Type 0
-IsRefused (reading.Accepted c m k) = ⊥
-IsRefused (reading.Refused n k) = Unit {0}
+IsRefused (Ok a) = ⊥
+IsRefused (Err r) = Unit {0}
 
 pub not-refused : {sheet s t : List ℕ} {r : Reading} (x : Said) → length s ≡ size (width_of s) → outcome (width_of s) sheet ≡ accepted x → Reads sheet s t r → IsRefused r → ⊥
 not-refused x l o (wrong_size z e) i = z l
@@ -46,7 +46,7 @@ not-and-found W sheet {u = u} {c = c} x y {lines} o p h g f r =
     let r' : Reason (counts_of x.names) c x.statements lines = subst (λ (z : Said). Reason (counts_of z.names) c z.statements lines) e r in
     f (reason-holds W x h r')
 
-pub reading-same : {n k i j : ℕ} → reading.Refused n k ≡ reading.Refused i j → (n ≡ i) × (k ≡ j)
+pub reading-same : {n k i j : ℕ} → refused_as n k ≡ refused_as i j → (n ≡ i) × (k ≡ j)
 reading-same e = (cc, cc)
 
 pub explains-settled : {sheet s t u : List ℕ} {c : Cell} {before after other : List ℕ} {r q : Explained} → Words 64 t → Words 64 u → Explains sheet s t c before after r → Explains sheet s u c before other q

@@ -5,19 +5,19 @@ use mir.ValLaws.{to_z_pos}
 use Rattle.coded.proofs.findings.code.Goals as goal
 
 pub overflow_cast-result : goal.overflow_cast-result
-overflow_cast-result c = let h = rw c.in-Count.is at c.requires in record { sfits = omega arith }
+overflow_cast-result c = let h = rw c.in-Ok.is at c.requires in record { sfits = omega arith }
 
-pub returns-in-Count : goal.returns-in-Count
-returns-in-Count c = let h = rw c.in-Count.is at c.requires in rw c.in-Count.is (to_z_pos w64 _ (omega arith))
+pub returns-in-Ok : goal.returns-in-Ok
+returns-in-Ok c = let h = rw c.in-Ok.is at c.requires in rw c.in-Ok.is (to_z_pos w64 _ (omega arith))
 
 pub returns-in-Size : goal.returns-in-Size
-returns-in-Size c = rw (c.in-Refused.is, c.in-Size.is)
+returns-in-Size c = rw (c.in-Err.is, c.in-Size.is)
 
 pub returns-in-NotClosed : goal.returns-in-NotClosed
-returns-in-NotClosed c = rw (c.in-Refused.is, c.in-NotClosed.is)
+returns-in-NotClosed c = rw (c.in-Err.is, c.in-NotClosed.is)
 
 pub returns-in-Malformed : goal.returns-in-Malformed
-returns-in-Malformed c = rw (c.in-Refused.is, c.in-Malformed.is)
+returns-in-Malformed c = rw (c.in-Err.is, c.in-Malformed.is)
 
 pub returns-in-Number : goal.returns-in-Number
-returns-in-Number c = rw (c.in-Refused.is, c.in-Number.is)
+returns-in-Number c = rw (c.in-Err.is, c.in-Number.is)

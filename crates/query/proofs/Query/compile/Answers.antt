@@ -27,4 +27,4 @@ pub fill-requires : goal.fill-requires
 fill-requires c = spacious _ _ _ _ (c.fits.ensures.holds c.if-not-fits.false) (c.well_formed-2.ensures.holds c.if-not-well_formed.false) (c.rule_within.ensures.holds c.if-not-rule_within.false) c.rule_length-n.ensures (omega (arith, c.if-n-gt-ITEMS.false)) (omega (arith, c.if-room-n.false))
 
 pub returns : goal.returns
-returns c = filled-compiled _ _ _ _ _ _ (c.fits.ensures.holds c.if-not-fits.false) (c.well_formed-2.ensures.holds c.if-not-well_formed.false) (c.rule_within.ensures.holds c.if-not-rule_within.false) c.rule_length-n.ensures (omega (arith, c.if-n-gt-ITEMS.false)) (omega (arith, c.if-room-n.false)) c.fill.ensures c.answers_of-answers.ensures refl
+returns c = filled-compiled _ _ _ _ _ _ (c.fits.ensures.holds c.if-not-fits.false) (c.well_formed-2.ensures.holds c.if-not-well_formed.false) (c.rule_within.ensures.holds c.if-not-rule_within.false) c.rule_length-n.ensures (omega (arith, c.if-n-gt-ITEMS.false)) (omega (arith, c.if-room-n.false)) c.fill.ensures c.answers_of.ensures refl

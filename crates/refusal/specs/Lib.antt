@@ -1,0 +1,3 @@
+-- What an answer is as one number.
+pub mod Signed
+pub mod laws

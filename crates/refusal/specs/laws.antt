@@ -1,0 +1,2 @@
+-- What is proved of answers as signed numbers.
+pub mod Signed
