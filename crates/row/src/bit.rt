@@ -24,39 +24,31 @@ pub fn low_bits(n: usize) -> u64
     ensures { result ≡ low_bits n }
 {
     if n >= 64 {
-        return u64::MAX;
+        u64::MAX
+    } else {
+        one_bit(n as u64) - 1
     }
-    one_bit(n as u64) - 1
 }
 
 // w with the bits of v, if `on`.
 pub fn or_if(on: bool, v: u64, w: u64) -> u64
     ensures { result ≡ or_if on v w }
 {
-    if on {
-        return w | v;
-    }
-    w
+    if on { w | v } else { w }
 }
 
 // Both.
 pub fn both(a: bool, b: bool) -> bool
     ensures { result ≡ (a && b) }
 {
-    if a {
-        return b;
-    }
-    false
+    a && b
 }
 
 // Either.
 pub fn either(a: bool, b: bool) -> bool
     ensures { result ≡ (a || b) }
 {
-    if a {
-        return true;
-    }
-    b
+    a || b
 }
 
 // w with the bits of m, if bit k of w is set.
@@ -73,10 +65,8 @@ pub fn count(s: &[u64]) -> u64
     ensures { result ≡ total s.now }
 {
     let mut n: u64 = 0;
-    let mut i = 0;
-    while i < s.len() {
-        n += u64::count_ones(s[i]) as u64;
-        i += 1;
+    for w in s {
+        n += w.count_ones() as u64;
     }
     n
 }

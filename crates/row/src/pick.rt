@@ -20,12 +20,8 @@ pub fn below(n: usize) -> Row
     ensures { AllBelow n result }
 {
     let mut r = [0u64; ROOM];
-    let mut left = n;
-    let mut h = 0;
-    while h < ROOM {
-        r[h] = crate::bit::low_bits(left);
-        left = crate::number::after_word(left);
-        h += 1;
+    for h in 0..ROOM {
+        r[h] = crate::bit::low_bits(n.saturating_sub(h * 64));
     }
     r
 }
@@ -41,7 +37,7 @@ pub fn has(r: &Row, x: usize) -> bool
 
 // The row takes on x, if `on`.
 pub fn mark(r: &mut Row, x: usize, on: bool)
-    requires { (length r.old ≡ room) × (x < 64 * room) }
+    requires { x < 64 * room }
     ensures { Marked on x r.old r.new }
 {
     let h = x / 64;
@@ -53,10 +49,8 @@ pub fn meet(a: &Row, b: &Row) -> Row
     ensures { Met a.now b.now result }
 {
     let mut r = [0u64; ROOM];
-    let mut h = 0;
-    while h < ROOM {
+    for h in 0..ROOM {
         r[h] = a[h] & b[h];
-        h += 1;
     }
     r
 }
@@ -66,10 +60,8 @@ pub fn without(a: &Row, b: &Row) -> Row
     ensures { Without a.now b.now result }
 {
     let mut r = [0u64; ROOM];
-    let mut h = 0;
-    while h < ROOM {
+    for h in 0..ROOM {
         r[h] = a[h] ^ (a[h] & b[h]);
-        h += 1;
     }
     r
 }
@@ -79,13 +71,10 @@ pub fn shares(s: &[u64], from: usize, width: usize, p: &Row) -> bool
     requires { (from + width ≤ length s.now) × (width ≤ room) }
     ensures { Decides result (Shared s.now from width p.now) }
 {
-    let mut h = 0;
-    while h < width {
-        let both = s[from + h] & p[h];
-        if both != 0 {
+    for h in 0..width {
+        if s[from + h] & p[h] != 0 {
             return true;
         }
-        h += 1;
     }
     false
 }
@@ -94,13 +83,11 @@ pub fn shares(s: &[u64], from: usize, width: usize, p: &Row) -> bool
 pub fn least(r: &Row) -> usize
     ensures { Least r.now result }
 {
-    let mut h = 0;
-    while h < ROOM {
-        let t = u64::trailing_zeros(r[h]) as usize;
+    for h in 0..ROOM {
+        let t = r[h].trailing_zeros() as usize;
         if t < 64 {
             return h * 64 + t;
         }
-        h += 1;
     }
     64 * ROOM
 }
@@ -110,7 +97,7 @@ fn lowest(w: u64, k: usize) -> usize
     requires { k < 64 }
     ensures { LowestBit w k result }
 {
-    k + u64::trailing_zeros(w >> (k as u64)) as usize
+    k + (w >> (k as u64)).trailing_zeros() as usize
 }
 
 // The least number of the row from x on that is below `count`; if it has none, `count`.
@@ -118,14 +105,11 @@ pub fn next(r: &[u64], x: usize, count: usize) -> usize
     requires { (x ≤ count) × (count ≤ 64 * length r.now) }
     ensures { Next r.now x count result }
 {
-    let mut at = x;
-    while at < count {
-        let start = at / 64 * 64;
-        let k = lowest(r[at / 64], at % 64);
+    for h in x / 64..count.div_ceil(64) {
+        let k = lowest(r[h], x.saturating_sub(h * 64));
         if k < 64 {
-            return crate::number::lesser(start + k, count);
+            return (h * 64 + k).min(count);
         }
-        at = start + crate::number::lesser(64, count - start);
     }
     count
 }
@@ -136,10 +120,8 @@ pub fn common(s: &[u64], from: usize, width: usize, p: &Row) -> usize
     ensures { Number (InBoth s.now from width p.now) result }
 {
     let mut n = 0;
-    let mut h = 0;
-    while h < width {
-        n += u64::count_ones(s[from + h] & p[h]) as usize;
-        h += 1;
+    for h in 0..width {
+        n += (s[from + h] & p[h]).count_ones() as usize;
     }
     n
 }

@@ -18,24 +18,25 @@ column-none = record { sound = λ x h. absurd (zero-none (moved ((together-none 
 pub column-within : (from x n count step len : ℕ) → x + n ≤ count → from + count * step < len + step → from + x * step + n * step < len + step
 column-within from x n count step len l h = omega (arith, add-mul x n step, mul-le-mul_right step l)
 
--- n bits more: the word from x on
-pub column-more : {t : List ℕ} {k n v : ℕ} (s : List ℕ) (from step x : ℕ) → Marks x t (λ y. Has (get_or s (from + y * step) 0) k) → length t ≡ room → x % 64 ≡ 0 → n ≤ 64 → x < 64 * room → v ≡ gathered s (from + x * step) step k n
-    → Marks (x + n) (set t (x / 64) v) (λ y. Has (get_or s (from + y * step) 0) k)
-column-more {t} {k} {n} {v} s from step x m len e small l g = record { sound = λ y h. sound y h (ℕ_discrete (y / 64) (x / 64)); whole = λ y ly h. whole y ly h (ℕ_discrete (y / 64) (x / 64)) }
+-- n bits more: word h
+pub column-more : {t : List ℕ} {k n v : ℕ} (s : List ℕ) (from step h : ℕ) → Marks (h * 64) t (λ y. Has (get_or s (from + y * step) 0) k) → length t ≡ room → n ≤ 64 → h < room → v ≡ gathered s (from + h * 64 * step) step k n
+    → Marks (h * 64 + n) (set t h v) (λ y. Has (get_or s (from + y * step) 0) k)
+column-more {t} {k} {n} {v} s from step h m len small l g = record { sound = λ y b. sound y b (ℕ_discrete (y / 64) h); whole = λ y ly b. whole y ly b (ℕ_discrete (y / 64) h) }
   where
-    place : (y : ℕ) → y / 64 ≡ x / 64 → from + x * step + y % 64 * step ≡ from + y * step
+    place : (y : ℕ) → y / 64 ≡ h → from + h * 64 * step + y % 64 * step ≡ from + y * step
     place y q =
-        let d : y ≡ x + y % 64 = omega arith in
-        omega (arith, add-mul x (y % 64) step, ap (λ (z : ℕ). z * step) d)
+        let d : y ≡ h * 64 + y % 64 = omega arith in
+        omega (arith, add-mul (h * 64) (y % 64) step, ap (λ (z : ℕ). z * step) d)
 
-    sound : (y : ℕ) → RowHas (set t (x / 64) v) y → Dec (y / 64 ≡ x / 64) → (y < x + n) × Has (get_or s (from + y * step) 0) k
-    sound y h (yes q) =
-        let z = gathered-has s _ _ k n (y % 64) (moved (ap (λ (i : ℕ). get_or (set t (x / 64) v) i 0) q ∙ get_or-set_same t (x / 64) v 0 (omega arith) ∙ g) h) in
+    here : (y : ℕ) → y / 64 ≡ h → get_or (set t h v) (y / 64) 0 ≡ gathered s (from + h * 64 * step) step k n
+    here y q = ap (λ (i : ℕ). get_or (set t h v) i 0) q ∙ get_or-set_same t h v 0 (omega arith) ∙ g
+
+    sound : (y : ℕ) → RowHas (set t h v) y → Dec (y / 64 ≡ h) → (y < h * 64 + n) × Has (get_or s (from + y * step) 0) k
+    sound y b (yes q) =
+        let z = gathered-has s _ _ k n (y % 64) (moved (here y q) b) in
         (omega (arith, z.0), at_place s (place y q) z.1)
-    sound y h (no q) = let z = m.sound y (moved (get_or-set_other t (x / 64) (y / 64) v 0 q) h) in (omega (arith, z.0), z.1)
+    sound y b (no q) = let z = m.sound y (moved (get_or-set_other t h (y / 64) v 0 q) b) in (omega (arith, z.0), z.1)
 
-    whole : (y : ℕ) → y < x + n → Has (get_or s (from + y * step) 0) k → Dec (y / 64 ≡ x / 64) → RowHas (set t (x / 64) v) y
-    whole y ly h (yes q) =
-        moved (sym (ap (λ (i : ℕ). get_or (set t (x / 64) v) i 0) q ∙ get_or-set_same t (x / 64) v 0 (omega arith) ∙ g))
-        (has-gathered s _ _ k n (y % 64) (omega arith) (at_place s (sym (place y q)) h))
-    whole y ly h (no q) = moved (sym (get_or-set_other t (x / 64) (y / 64) v 0 q)) (m.whole y (omega arith) h)
+    whole : (y : ℕ) → y < h * 64 + n → Has (get_or s (from + y * step) 0) k → Dec (y / 64 ≡ h) → RowHas (set t h v) y
+    whole y ly b (yes q) = moved (sym (here y q)) (has-gathered s _ _ k n (y % 64) (omega arith) (at_place s (sym (place y q)) b))
+    whole y ly b (no q) = moved (sym (get_or-set_other t h (y / 64) v 0 q)) (m.whole y (omega arith) b)

@@ -240,31 +240,31 @@ lowest-is w k = record {
 abbrev pub NoneFrom : List ℕ → ℕ → ℕ → Type 0
 NoneFrom r x at = (z : ℕ) → x ≤ z → z < at → ¬ (RowHas r z)
 
--- nor is one up to the lowest bit of the word from `at` on
-none-word : (r : List ℕ) (x at k : ℕ) → NoneFrom r x at → LowestBit (get_or r (at / 64) 0) (at % 64) k → NoneFrom r x (at / 64 * 64 + min k 64)
-none-word r x at k f low z hz lz b = go (dec_lt z at)
+-- nor is one up to the lowest bit of word h from its bit j on
+none-word : (r : List ℕ) (x h j k : ℕ) → NoneFrom r x (h * 64 + j) → LowestBit (get_or r h 0) j k → NoneFrom r x (h * 64 + min k 64)
+none-word r x h j k f low z hz lz b = go (dec_lt z (h * 64 + j))
   where
-    go : Dec (z < at) → ⊥
+    go : Dec (z < h * 64 + j) → ⊥
     go (yes y) = f z hz y b
     go (no y) =
-        let e : z / 64 ≡ at / 64 = omega arith in
+        let e : z / 64 ≡ h = omega arith in
         low.least (z % 64) (omega arith) (omega arith) (at_place r e b)
 
--- nor is one of the word, if it has no bit from `at` on
-pub none-past : (r : List ℕ) (x at k n : ℕ) → NoneFrom r x at → LowestBit (get_or r (at / 64) 0) (at % 64) k → 64 ≤ k → n ≤ 64 → NoneFrom r x (at / 64 * 64 + n)
-none-past r x at k n f low l h z hz lz b = none-word r x at k f low z hz (omega arith) b
+-- nor is one of the word, if it has no bit from j on
+pub none-past : (r : List ℕ) (x h j k n : ℕ) → NoneFrom r x (h * 64 + j) → LowestBit (get_or r h 0) j k → 64 ≤ k → n ≤ 64 → NoneFrom r x (h * 64 + n)
+none-past r x h j k n f low hk l z hz lz b = none-word r x h j k f low z hz (omega arith) b
 
 -- the lowest bit of the first word that has one
-pub next_here : (r : List ℕ) (x at count k y : ℕ) → NoneFrom r x at → LowestBit (get_or r (at / 64) 0) (at % 64) k → x ≤ at → at < count → k < 64 → y ≡ min (at / 64 * 64 + k) count
+pub next_here : (r : List ℕ) (x h j count k y : ℕ) → NoneFrom r x (h * 64 + j) → LowestBit (get_or r h 0) j k → x ≤ h * 64 + j → x ≤ count → k < 64 → y ≡ min (h * 64 + k) count
     → Next r x count y
-next_here r x at count k y f low hx hc l e = record {
+next_here r x h j count k y f low hx hc l e = record {
   from = omega (arith, low.from);
   within = omega arith;
   found = λ ly.
-      let word : at / 64 ≡ y / 64 = omega arith in
+      let word : h ≡ y / 64 = omega arith in
       let bit : k ≡ y % 64 = omega arith in
       at_place r word (at-bit bit (low.found l));
-  least = λ z hz lz b. none-word r x at k f low z hz (omega arith) b;
+  least = λ z hz lz b. none-word r x h j k f low z hz (omega arith) b;
 }
 
 -- no word has one

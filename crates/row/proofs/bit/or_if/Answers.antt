@@ -6,6 +6,6 @@ pub returns-then-on : goal.returns-then-on
 unfolding or_if
 returns-then-on c = simp c.if-on.true
 
-pub returns : goal.returns
+pub returns-else-on : goal.returns-else-on
 unfolding or_if
-returns c = simp c.if-on.false
+returns-else-on c = simp c.if-on.false
