@@ -2,26 +2,23 @@ ghost use Rattle.std.specs.Prelude.{◌≡◌, ◌*◌, ◌≤◌, length};
 ghost use Rattle.row.specs.own.Row.{RowHas};
 ghost use Rattle.row.specs.own.Pick.{Marks, room};
 ghost use Rattle.store.specs.Cell.Cell.{Same, In};
-ghost use Rattle.store.specs.Layout.{ClosedStore, Holds};
-ghost use Rattle.store.specs.own.Laid.{Laid};
+ghost use Rattle.store.specs.own.View.{held};
 ghost use Rattle.rule.specs.Expr.{expr_at};
-ghost use Rattle.packed.specs.own.Packed.{pack_limit, slots_of};
 ghost use Rattle.rule.specs.Meaning.{HoldsOf, Linked};
-ghost use Rattle.expression.specs.own.Row.{NodeHolds};
 
 use row::Row;
-use rule::{Node, RoleUse};
-use store::{Concept, Counts, Item, Layout};
+use rule::{Node, RoleUse, Rule, Slot};
+use store::view::View;
+use store::{Concept, Item};
 
 // The items of the concept c. A concept that is not declared has none.
-fn named(words: &[u64], at: Layout, counts: Counts, c: usize) -> Row
-    requires { Laid at words.now × ClosedStore at.width counts words.now }
-    ensures { Marks counts.items result (λ x. Holds at.width counts words.now (In x c)) }
+fn named(view: &View, c: Concept) -> Row
+    ensures { Marks view.now.counts.items result (λ x. held view.now (In x c.0)) }
 {
-    if counts.concepts <= c {
+    if view.counts.concepts <= c.0 {
         return row::pick::empty();
     }
-    store::look::concept_row(words, at, counts, Concept(c))
+    view.concept_row(c)
 }
 
 // The numbers below n that the row p has not.
@@ -29,8 +26,7 @@ fn others(n: usize, p: &Row) -> Row
     requires { n ≤ 64 * room }
     ensures { Marks n result (λ x. ¬ (RowHas p.now x)) }
 {
-    let all = row::pick::below(n);
-    row::pick::without(&all, p)
+    row::pick::without(&row::pick::below(n), p)
 }
 
 // The numbers below n that both rows have.
@@ -38,79 +34,49 @@ fn shared(n: usize, p: &Row, q: &Row) -> Row
     requires { n ≤ 64 * room }
     ensures { Marks n result (λ x. RowHas p.now x × RowHas q.now x) }
 {
-    let all = row::pick::below(n);
-    let both = row::pick::meet(p, q);
-    row::pick::meet(&all, &both)
+    row::pick::meet(&row::pick::below(n), &row::pick::meet(p, q))
 }
 
 // The items that the role, or its inverse, links to themselves.
-fn selves(words: &[u64], at: Layout, counts: Counts, u: RoleUse) -> Row
-    requires { Laid at words.now × ClosedStore at.width counts words.now }
-    ensures { Marks counts.items result (λ x. Linked (Holds at.width counts words.now) u x x) }
+fn selves(view: &View, u: RoleUse) -> Row
+    ensures { Marks view.now.counts.items result (λ x. Linked (held view.now) u x x) }
 {
     let mut r = row::pick::empty();
-    let mut x = 0;
-    while x < counts.items {
-        let on = links::look::linked(words, at, counts, u, x, x);
-        row::pick::mark(&mut r, x, on);
-        x += 1;
+    for x in 0..view.counts.items {
+        row::pick::mark(&mut r, x, links::look::linked(view, u, x, x));
     }
     r
 }
 
 // The items that are the same article as a. An item that is not declared is the same as none.
-fn alike(words: &[u64], at: Layout, counts: Counts, a: usize) -> Row
-    requires { Laid at words.now × ClosedStore at.width counts words.now }
-    ensures { Marks counts.items result (λ x. Holds at.width counts words.now (Same x a)) }
+fn alike(view: &View, a: Item) -> Row
+    ensures { Marks view.now.counts.items result (λ x. held view.now (Same x a.0)) }
 {
-    if counts.items <= a {
+    if view.counts.items <= a.0 {
         return row::pick::empty();
     }
-    store::look::same_row(words, at, counts, Item(a))
+    view.same_row(a)
 }
 
-// The row of a node, where p and q are the rows of its children.
-fn fill(words: &[u64], at: Layout, counts: Counts, node: Node, p: &Row, q: &Row) -> Row
-    requires { Laid at words.now × ClosedStore at.width counts words.now }
-    ensures { Marks counts.items result (NodeHolds (Holds at.width counts words.now) counts node (RowHas p.now) (RowHas q.now)) }
+// The items that the expression at a node holds of, as a row of bits. It reads `left` nodes deep, by one call for each child.
+pub fn row_at(view: &View, nodes: &[Slot; Rule::NODES], node: usize, left: usize) -> Row
+    ensures { Marks view.now.counts.items result (HoldsOf (held view.now) view.now.counts (expr_at left nodes.now node)) }
 {
-    match node {
-        Node::Name(c) => named(words, at, counts, c.0),
-        Node::Top => row::pick::below(counts.items),
-        Node::Not(_) => others(counts.items, p),
-        Node::And(_, _) => shared(counts.items, p, q),
-        Node::AtLeast(k, u, _) => crate::count::many(words, at, counts, k, u, p),
-        Node::SelfOf(u) => selves(words, at, counts, u),
-        Node::One(a) => alike(words, at, counts, a.0),
-    }
-}
-
-// The items that the expression at a node holds of, as a row of bits; the nodes are lent as numbers. It reads `left` nodes deep, by one call for each child.
-pub fn row_at(
-    words: &[u64],
-    at: Layout,
-    counts: Counts,
-    nodes: &[usize],
-    node: usize,
-    left: usize,
-) -> Row
-    requires { Laid at words.now × ClosedStore at.width counts words.now × (length nodes.now ≡ pack_limit) }
-    ensures { Marks counts.items result (HoldsOf (Holds at.width counts words.now) counts (expr_at left (slots_of nodes.now) node)) }
-{
-    let none = row::pick::empty();
     if left == 0 {
-        return fill(words, at, counts, Node::Top, &none, &none);
+        return row::pick::below(view.counts.items);
     }
-    let here = packed::node_at(nodes, node);
-    if !crate::children::has_first(here) {
-        return fill(words, at, counts, here, &none, &none);
+    match rule::nodes::node_at(nodes, node) {
+        Node::Name(c) => named(view, c),
+        Node::Top => row::pick::below(view.counts.items),
+        Node::Not(a) => others(view.counts.items, &row_at(view, nodes, a, left - 1)),
+        Node::And(a, b) => {
+            let p = row_at(view, nodes, a, left - 1);
+            shared(view.counts.items, &p, &row_at(view, nodes, b, left - 1))
+        }
+        Node::AtLeast(k, u, a) => {
+            crate::count::many(view, k, u, &row_at(view, nodes, a, left - 1))
+        }
+        Node::SelfOf(u) => selves(view, u),
+        Node::One(a) => alike(view, a),
     }
-    let first = crate::children::first_child(here);
-    let p = row_at(words, at, counts, nodes, first, left - 1);
-    if !crate::children::has_second(here) {
-        return fill(words, at, counts, here, &p, &none);
-    }
-    let second = crate::children::second_child(here);
-    let q = row_at(words, at, counts, nodes, second, left - 1);
-    fill(words, at, counts, here, &p, &q)
 }

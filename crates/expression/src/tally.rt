@@ -2,15 +2,15 @@ ghost use Rattle.std.specs.Prelude.{◌≡◌, Bool, true, ◌*◌, ◌≤◌, �
 ghost use Rattle.logic.specs.own.Decides.{Decides};
 ghost use Rattle.row.specs.own.Row.{RowHas};
 ghost use Rattle.row.specs.own.Pick.{Marks, room};
-ghost use Rattle.store.specs.Layout.{ClosedStore, Holds};
-ghost use Rattle.store.specs.own.Laid.{Laid};
+ghost use Rattle.store.specs.own.View.{held};
 ghost use Rattle.rule.specs.Form.{count_limit};
 ghost use Rattle.rule.specs.Meaning.{Articles, LinkedWay};
 ghost use Rattle.expression.specs.own.Tally.{AllTell, Blank, Countable, Counted, tally_words};
 
 use row::Row;
 use rule::{RoleUse, Rule};
-use store::{Counts, Item, Layout, Role};
+use store::view::View;
+use store::{Counts, Item, Role};
 
 // How many words the tallies of 64 items have: one for each number, from none to the largest count.
 const TALLIES: usize = Rule::COUNT + 1;
@@ -22,18 +22,7 @@ const FULL: u64 = 0xffff_ffff_ffff_ffff;
 pub fn counts_for(counts: Counts, k: usize, u: RoleUse) -> bool
     ensures { Decides result (Countable counts k u) }
 {
-    let inverse = u.inverse;
-    let role = u.role.0;
-    if !inverse {
-        return false;
-    }
-    if counts.roles <= role {
-        return false;
-    }
-    if k < 2 {
-        return false;
-    }
-    k <= Rule::COUNT
+    u.inverse && u.role.0 < counts.roles && 2 <= k && k <= Rule::COUNT
 }
 
 // The tallies before any item is counted: word 0 has every bit, the others none.
@@ -50,32 +39,22 @@ fn count_word(t: &mut [u64; TALLIES], w: u64, k: usize)
     requires { (length t.old ≡ tally_words) × (k ≤ count_limit) }
     ensures { Counted 0 k w t.old t.new }
 {
-    let mut j = k;
-    while 0 < j {
-        t[j] = t[j] | (t[j - 1] & w);
-        j -= 1;
+    for j in (0..k).rev() {
+        t[j + 1] = t[j + 1] | (t[j] & w);
     }
 }
 
 // Of the 64 items of word h those that the role links at least k items of the row p to, as bits.
-fn tally_word(
-    words: &[u64],
-    at: Layout,
-    counts: Counts,
-    k: usize,
-    role: usize,
-    p: &Row,
-    h: usize,
-) -> u64
-    requires { Laid at words.now × ClosedStore at.width counts words.now × (role < counts.roles) × (k ≤ count_limit) × (h < at.width) }
-    ensures { AllTell h k (λ x y. LinkedWay (Holds at.width counts words.now) Bool.true role x y × RowHas p.now y) result }
+fn tally_word(view: &View, k: usize, role: Role, p: &Row, h: usize) -> u64
+    requires { (role.0 < view.now.counts.roles) × (k ≤ count_limit) × (h < view.now.at.width) }
+    ensures { AllTell h k (λ x y. LinkedWay (held view.now) Bool.true role.0 x y × RowHas p.now y) result }
 {
     let mut t = blank();
-    let mut b = row::pick::next(p, 0, counts.items);
-    while b < counts.items {
-        let links = store::look::link_word(words, at, counts, Role(role), Item(b), h);
+    let mut b = row::pick::next(p, 0, view.counts.items);
+    while b < view.counts.items {
+        let links = view.link_word(role, Item(b), h);
         count_word(&mut t, links, k);
-        b = row::pick::next(p, b + 1, counts.items);
+        b = row::pick::next(p, b + 1, view.counts.items);
     }
     t[k]
 }
@@ -85,22 +64,19 @@ fn within(n: usize, p: &Row) -> Row
     requires { n ≤ 64 * room }
     ensures { Marks n result (RowHas p.now) }
 {
-    let all = row::pick::below(n);
-    row::pick::meet(&all, p)
+    row::pick::meet(&row::pick::below(n), p)
 }
 
 // The items that the role links items of the row p of at least k different articles to.
-pub fn tally(words: &[u64], at: Layout, counts: Counts, k: usize, role: usize, p: &Row) -> Row
-    requires { Laid at words.now × ClosedStore at.width counts words.now × (role < counts.roles) × (1 ≤ k) × (k ≤ count_limit) }
-    ensures { Marks counts.items result (λ x. Articles (Holds at.width counts words.now) counts k (λ b. LinkedWay (Holds at.width counts words.now) Bool.true role x b × RowHas p.now b)) }
+pub fn tally(view: &View, k: usize, role: Role, p: &Row) -> Row
+    requires { (role.0 < view.now.counts.roles) × (1 ≤ k) × (k ≤ count_limit) }
+    ensures { Marks view.now.counts.items result (λ x. Articles (held view.now) view.now.counts k (λ b. LinkedWay (held view.now) Bool.true role.0 x b × RowHas p.now b)) }
 {
-    let mut lead = within(counts.items, p);
-    crate::lead::keep_leaders(words, at, counts, &mut lead);
+    let mut lead = within(view.counts.items, p);
+    crate::lead::keep_leaders(view, &mut lead);
     let mut r = row::pick::empty();
-    let mut h = 0;
-    while h < at.width {
-        r[h] = tally_word(words, at, counts, k, role, &lead, h);
-        h += 1;
+    for h in 0..view.at.width {
+        r[h] = tally_word(view, k, role, &lead, h);
     }
     r
 }

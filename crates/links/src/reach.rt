@@ -2,8 +2,7 @@ ghost use Rattle.std.specs.Prelude.{[], ◌∷◌, Bool, true, false, ◌<◌, t
 ghost use Rattle.logic.specs.own.Decides.{Decides};
 ghost use Rattle.row.specs.own.Row.{RowHas};
 ghost use Rattle.row.specs.own.Pick.{Marks};
-ghost use Rattle.store.specs.Layout.{ClosedStore, Holds};
-ghost use Rattle.store.specs.own.Laid.{Laid};
+ghost use Rattle.store.specs.own.View.{held};
 ghost use Rattle.rule.specs.Meaning.{Linked, LinkedWay};
 ghost use Rattle.rule.specs.Breaks.{Path};
 ghost use Rattle.links.specs.own.Reach.{ItemRow, Reached};
@@ -11,68 +10,53 @@ ghost use Rattle.store.specs.Cell.{DeclaredItem};
 
 use row::{ROOM, Row};
 use rule::RoleUse;
-use store::{Counts, Item, Layout, Role};
+use store::view::View;
+use store::{Item, Role};
 
 // The items that the role links an item of the row p to.
-fn forward(words: &[u64], at: Layout, counts: Counts, role: usize, p: &Row) -> Row
-    requires { Laid at words.now × ClosedStore at.width counts words.now × (role < counts.roles) }
-    ensures { Marks counts.items result (Reached (LinkedWay (Holds at.width counts words.now) Bool.false role) (RowHas p.now)) }
+fn forward(view: &View, role: Role, p: &Row) -> Row
+    requires { role.0 < view.now.counts.roles }
+    ensures { Marks view.now.counts.items result (Reached (LinkedWay (held view.now) Bool.false role.0) (RowHas p.now)) }
 {
     let mut r = row::pick::empty();
     let mut z = 0;
-    while z < counts.items {
+    while z < view.counts.items {
         if row::pick::has(p, z) {
-            store::look::add_links(words, at, counts, Role(role), Item(z), &mut r);
+            view.add_links(role, Item(z), &mut r);
             z += 1;
         } else {
-            z = row::pick::next(p, z + 1, counts.items);
+            z = row::pick::next(p, z + 1, view.counts.items);
         }
     }
     r
 }
 
-// Whether the role links y to an item of the row p.
-fn touches(words: &[u64], at: Layout, counts: Counts, role: usize, p: &Row, y: usize) -> bool
-    requires { Laid at words.now × ClosedStore at.width counts words.now × (role < counts.roles) × DeclaredItem counts y }
-    ensures { Decides result (Reached (LinkedWay (Holds at.width counts words.now) Bool.true role) (RowHas p.now) y) }
-{
-    store::look::links_meet(words, at, counts, Role(role), Item(y), p)
-}
-
 // The items that the role links to an item of the row p.
-fn backward(words: &[u64], at: Layout, counts: Counts, role: usize, p: &Row) -> Row
-    requires { Laid at words.now × ClosedStore at.width counts words.now × (role < counts.roles) }
-    ensures { Marks counts.items result (Reached (LinkedWay (Holds at.width counts words.now) Bool.true role) (RowHas p.now)) }
+fn backward(view: &View, role: Role, p: &Row) -> Row
+    requires { role.0 < view.now.counts.roles }
+    ensures { Marks view.now.counts.items result (Reached (LinkedWay (held view.now) Bool.true role.0) (RowHas p.now)) }
 {
     let mut r = row::pick::empty();
-    if row::pick::next(p, 0, counts.items) == counts.items {
+    if row::pick::next(p, 0, view.counts.items) == view.counts.items {
         return r;
     }
-    let mut y = 0;
-    while y < counts.items {
-        let here = y;
-        y += 1;
-        if touches(words, at, counts, role, p, here) {
-            row::pick::mark(&mut r, here, true);
-        }
+    for y in 0..view.counts.items {
+        row::pick::mark(&mut r, y, view.links_meet(role, Item(y), p));
     }
     r
 }
 
 // The items that the role, or its inverse, links an item of the row p to.
-pub fn step_row(words: &[u64], at: Layout, counts: Counts, u: RoleUse, p: &Row) -> Row
-    requires { Laid at words.now × ClosedStore at.width counts words.now }
-    ensures { Marks counts.items result (Reached (Linked (Holds at.width counts words.now) u) (RowHas p.now)) }
+pub fn step_row(view: &View, u: RoleUse, p: &Row) -> Row
+    ensures { Marks view.now.counts.items result (Reached (Linked (held view.now) u) (RowHas p.now)) }
 {
-    let inverse = u.inverse;
-    let role = u.role.0;
-    if counts.roles <= role {
+    if view.counts.roles <= u.role.0 {
         return row::pick::empty();
     }
-    if inverse {
-        return backward(words, at, counts, role, p);
+    if u.inverse {
+        return backward(view, u.role, p);
     }
-    forward(words, at, counts, role, p)
+    forward(view, u.role, p)
 }
 
 // The row of the item x alone; a number past the row's bits is in none.
@@ -89,9 +73,7 @@ pub fn item_row(x: usize) -> Row
 
 // The ends of the paths from x of the first k of the roles.
 pub fn path_row(
-    words: &[u64],
-    at: Layout,
-    counts: Counts,
+    view: &View,
     k: usize,
     a: RoleUse,
     b: RoleUse,
@@ -99,23 +81,23 @@ pub fn path_row(
     d: RoleUse,
     x: usize,
 ) -> Row
-    requires { Laid at words.now × ClosedStore at.width counts words.now × DeclaredItem counts x }
-    ensures { Marks counts.items result (Path (Holds at.width counts words.now) counts (take k (a ∷ b ∷ c ∷ d ∷ [])) x) }
+    requires { DeclaredItem view.now.counts x }
+    ensures { Marks view.now.counts.items result (Path (held view.now) view.now.counts (take k (a ∷ b ∷ c ∷ d ∷ [])) x) }
 {
     if k == 0 {
         return item_row(x);
     }
-    let first = crate::found::links(words, at, counts, a, x);
+    let first = crate::found::links(view, a, x);
     if k == 1 {
         return first;
     }
-    let second = step_row(words, at, counts, b, &first);
+    let second = step_row(view, b, &first);
     if k == 2 {
         return second;
     }
-    let third = step_row(words, at, counts, c, &second);
+    let third = step_row(view, c, &second);
     if k == 3 {
         return third;
     }
-    step_row(words, at, counts, d, &third)
+    step_row(view, d, &third)
 }

@@ -1,8 +1,7 @@
 -- `expression::count::many` meets its contract: several articles of an inverse by tallies, one by the turned role, others by one item of each article. Assumes nothing.
-use native.Mathlib.Omega.{arith}
-use borrow.Author.Rules.{rules}
+use Rattle.std.proofs.Common.{arith, rules}
 use Rattle.expression.specs.laws.Many.{none-marks, some-marks, turned-marks}
-use Rattle.store.specs.Layout.{Holds}
+use Rattle.store.specs.own.View.{held}
 use Rattle.expression.proofs.count.many.Goals as goal
 
 pub returns-then-k-eq0 : goal.returns-then-k-eq0
@@ -19,7 +18,7 @@ pub returns-then-counts_for : goal.returns-then-counts_for
 returns-then-counts_for c = let z = c.counts_for.ensures.holds c.if-counts_for.true in rw z.inverse c.tally.ensures
 
 pub returns-then-k-eq1 : goal.returns-then-k-eq1
-returns-then-k-eq1 c = some-marks c.args.u c.if-k-eq1.true c.turned-back.ensures c.step_row-some.ensures
+returns-then-k-eq1 c = some-marks c.args.u c.if-k-eq1.true c.turned.ensures c.step_row-some.ensures
 
 pub several-requires : goal.several-requires
-several-requires c = (c.requires.0, c.requires.1, omega (arith, c.if-k-eq0.false), turned-marks (Holds c.args.at.width c.args.counts c.args.words.now) c.args.u c.turned-back.ensures c.step_row-some.ensures)
+several-requires c = (omega (arith, c.if-k-eq0.false), turned-marks (held c.args.view.now) c.args.u c.turned.ensures c.step_row-some.ensures)

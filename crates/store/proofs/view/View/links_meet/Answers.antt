@@ -1,0 +1,6 @@
+-- `store::view::View::links_meet` meets its contract: the row of the links is read where the layout has it. Assumes nothing.
+use Rattle.store.specs.laws.Look.{links-meet}
+use Rattle.store.proofs.view.View.links_meet.Goals as goal
+
+pub returns : goal.returns
+returns c = links-meet c.args.r.0 c.args.a.0 c.args.self.now.closed c.requires.1 c.link_row.ensures.0 c.shares.ensures
