@@ -5,12 +5,11 @@ use crate::{Node, Rule, Slot};
 use store::Concept;
 
 // The node at place i; past the last place the name of concept 0.
-pub fn node_at(nodes: [Slot; Rule::NODES], i: usize) -> Node
-    ensures { result ≡ node_at nodes i }
+pub fn node_at(nodes: &[Slot; Rule::NODES], i: usize) -> Node
+    ensures { result ≡ node_at nodes.now i }
 {
-    if i < Rule::NODES {
-        let slot = nodes[i];
-        return slot.node;
+    match nodes.get(i) {
+        Some(slot) => slot.node,
+        None => Node::Name(Concept(0)),
     }
-    Node::Name(Concept(0))
 }
