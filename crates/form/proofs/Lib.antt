@@ -1,0 +1,2 @@
+-- What several proofs of a rule's form share.
+pub mod All
