@@ -4,7 +4,7 @@
 pub mod length;
 pub mod write;
 
-// What limits the items of a query, and their kinds.
+// What limits the items of a query.
 #[derive(Drop)]
 pub struct Body {}
 
@@ -15,16 +15,16 @@ impl Body {
     pub const WORDS: usize = 4;
     // The term of item 0; those of the others follow.
     pub const FIRST: usize = 4096;
-    // The kinds of items.
-    pub const CONCEPT: u16 = 1;
+}
 
-    pub const ROLE: u16 = 2;
-
-    pub const EQUALITY: u16 = 3;
-
-    pub const OPEN: u16 = 4;
-
-    pub const CLOSE: u16 = 5;
+// The kinds of items, each with its word.
+#[derive(Clone, Copy)]
+pub enum Kind {
+    Concept = 1,
+    Role = 2,
+    Equality = 3,
+    Open = 4,
+    Close = 5,
 }
 
 // Where the next item is written, and the next free variable.

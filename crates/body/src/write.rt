@@ -3,9 +3,9 @@ ghost use Rattle.std.specs.Prelude.{◌≡◌, ◌∷◌, [], ◌+◌, ◌≤◌
 ghost use Rattle.rule.specs.Expr.{expr_at};
 ghost use Rattle.body.specs.Body.{first_item, eq, flat, atom, end};
 ghost use Rattle.body.specs.Translation.{link, without};
-ghost use Rattle.body.specs.own.Writing.{Wrote, RoomFor, Roomy, Written, RoomyTurns, Turned, RoomyApart, Parted, RoomyPairs, Paired, RoomyPath, Pathed};
+ghost use Rattle.body.specs.own.Writing.{word_of, Wrote, RoomFor, Roomy, Written, RoomyTurns, Turned, RoomyApart, Parted, RoomyPairs, Paired, RoomyPath, Pathed};
 
-use crate::{Body, Cursor};
+use crate::{Body, Cursor, Kind};
 use rule::{Node, RoleUse, Rule, Slot};
 use store::Item;
 
@@ -27,18 +27,18 @@ pub fn term(a: Item) -> u16
 
 impl Cursor {
     // Writes one item.
-    fn put(self, room: &mut [u16], kind: u16, name: u16, s: u16, t: u16) -> Cursor
+    fn put(self, room: &mut [u16], kind: Kind, name: u16, s: u16, t: u16) -> Cursor
         requires { self.place + 4 ≤ length room.old }
-        ensures { Wrote room.old room.new self result (kind ∷ name ∷ s ∷ t ∷ []) 0 }
+        ensures { Wrote room.old room.new self result (word_of kind ∷ name ∷ s ∷ t ∷ []) 0 }
     {
         let at = self.place;
-        room[at] = kind;
+        room[at] = kind as u16;
         room[at + 1] = name;
         room[at + 2] = s;
         room[at + 3] = t;
         Cursor {
-            next: self.next,
             place: at + Body::WORDS,
+            ..self
         }
     }
 
@@ -47,7 +47,7 @@ impl Cursor {
         requires { self.place + 4 ≤ length room.old }
         ensures { Wrote room.old room.new self result (4 ∷ 0 ∷ 0 ∷ 0 ∷ []) 0 }
     {
-        self.put(room, Body::OPEN, 0, 0, 0)
+        self.put(room, Kind::Open, 0, 0, 0)
     }
 
     // Closes a not.
@@ -55,7 +55,7 @@ impl Cursor {
         requires { self.place + 4 ≤ length room.old }
         ensures { Wrote room.old room.new self result (5 ∷ 0 ∷ 0 ∷ 0 ∷ []) 0 }
     {
-        self.put(room, Body::CLOSE, 0, 0, 0)
+        self.put(room, Kind::Close, 0, 0, 0)
     }
 
     // Writes a role atom; an inverse swaps the terms.
@@ -64,11 +64,10 @@ impl Cursor {
         ensures { Wrote room.old room.new self result (flat (atom (link u s t) end)) 0 }
     {
         let role = word(u.role.0);
-        let inverse = u.inverse;
-        if inverse {
-            return self.put(room, Body::ROLE, role, t, s);
+        if u.inverse {
+            return self.put(room, Kind::Role, role, t, s);
         }
-        self.put(room, Body::ROLE, role, s, t)
+        self.put(room, Kind::Role, role, s, t)
     }
 
     // Writes a role atom inside a not.
@@ -76,9 +75,7 @@ impl Cursor {
         requires { RoomFor room.old self 3 u }
         ensures { Wrote room.old room.new self result (flat (without (link u s t))) 0 }
     {
-        let open = self.open_not(room);
-        let inner = open.link(room, u, s, t);
-        inner.close_not(room)
+        self.open_not(room).link(room, u, s, t).close_not(room)
     }
 
     // Writes an equality.
@@ -86,7 +83,7 @@ impl Cursor {
         requires { self.place + 4 ≤ length room.old }
         ensures { Wrote room.old room.new self result (flat (atom (eq s t) end)) 0 }
     {
-        self.put(room, Body::EQUALITY, 0, s, t)
+        self.put(room, Kind::Equality, 0, s, t)
     }
 
     // Writes an equality inside a not.
@@ -94,9 +91,7 @@ impl Cursor {
         requires { self.place + 12 ≤ length room.old }
         ensures { Wrote room.old room.new self result (flat (without (eq s t))) 0 }
     {
-        let open = self.open_not(room);
-        let inner = open.equal(room, s, t);
-        inner.close_not(room)
+        self.open_not(room).equal(room, s, t).close_not(room)
     }
 
     // Writes that y differs from each of the n variables z, z + stride, ..
@@ -107,8 +102,8 @@ impl Cursor {
         if n == 0 {
             return self;
         }
-        let one = self.unequal(room, y, z);
-        one.apart(room, y, z + stride, stride, n - 1)
+        self.unequal(room, y, z)
+            .apart(room, y, z + stride, stride, n - 1)
     }
 
     // Writes that the n variables y, y + stride, .. differ, pair by pair.
@@ -119,48 +114,43 @@ impl Cursor {
         if n == 0 {
             return self;
         }
-        let first = self.apart(room, y, y + stride, stride, n - 1);
-        first.pairs(room, y + stride, stride, n - 1)
+        self.apart(room, y, y + stride, stride, n - 1)
+            .pairs(room, y + stride, stride, n - 1)
     }
 
     // Writes the expression at a node of the term t. It reads `left` nodes deep.
     #[cycle(expr_turns)]
     pub fn expr(
         self,
-        nodes: [Slot; Rule::NODES],
+        nodes: &[Slot; Rule::NODES],
         left: usize,
         at: usize,
         t: u16,
         room: &mut [u16],
     ) -> Cursor
-        requires { Roomy room.old self (expr_at left nodes at) }
-        ensures { Written room.old room.new self result t (expr_at left nodes at) }
+        requires { Roomy room.old self (expr_at left nodes.now at) }
+        ensures { Written room.old room.new self result t (expr_at left nodes.now at) }
     {
         if left == 0 {
             return self;
         }
-        let node = rule::nodes::node_at(nodes, at);
-        match node {
-            Node::Name(c) => self.put(room, Body::CONCEPT, word(c.0), t, 0),
+        match rule::nodes::node_at(nodes, at) {
+            Node::Name(c) => self.put(room, Kind::Concept, word(c.0), t, 0),
             Node::Top => self,
-            Node::Not(i) => {
-                let open = self.open_not(room);
-                let inner = open.expr(nodes, left - 1, i, t, room);
-                inner.close_not(room)
-            }
-            Node::And(i, j) => {
-                let first = self.expr(nodes, left - 1, i, t, room);
-                first.expr(nodes, left - 1, j, t, room)
-            }
+            Node::Not(i) => self
+                .open_not(room)
+                .expr(nodes, left - 1, i, t, room)
+                .close_not(room),
+            Node::And(i, j) => self
+                .expr(nodes, left - 1, i, t, room)
+                .expr(nodes, left - 1, j, t, room),
             Node::AtLeast(n, u, i) => {
                 if n == 0 {
                     return self;
                 }
-                let from = self.next;
                 let turned = self.turns(nodes, left - 1, i, u, n, t, room);
-                let to = turned.next;
-                let stride = (to - from) / word(n);
-                turned.pairs(room, from, stride, n)
+                let stride = (turned.next - self.next) / word(n);
+                turned.pairs(room, self.next, stride, n)
             }
             Node::SelfOf(u) => self.link(room, u, t, t),
             Node::One(a) => self.equal(room, t, term(a)),
@@ -171,7 +161,7 @@ impl Cursor {
     #[cycle(expr_turns)]
     fn turns(
         self,
-        nodes: [Slot; Rule::NODES],
+        nodes: &[Slot; Rule::NODES],
         left: usize,
         at: usize,
         u: RoleUse,
@@ -179,8 +169,8 @@ impl Cursor {
         t: u16,
         room: &mut [u16],
     ) -> Cursor
-        requires { RoomyTurns room.old self u (expr_at left nodes at) n }
-        ensures { Turned room.old room.new self result t u (expr_at left nodes at) n }
+        requires { RoomyTurns room.old self u (expr_at left nodes.now at) n }
+        ensures { Turned room.old room.new self result t u (expr_at left nodes.now at) n }
     {
         if n == 0 {
             return self;
@@ -189,35 +179,30 @@ impl Cursor {
         let linked = self.link(room, u, t, y);
         let fresh = Cursor {
             next: y + 1,
-            place: linked.place,
+            ..linked
         };
-        let done = fresh.expr(nodes, left, at, y, room);
-        done.turns(nodes, left, at, u, n - 1, t, room)
+        fresh
+            .expr(nodes, left, at, y, room)
+            .turns(nodes, left, at, u, n - 1, t, room)
     }
 
-    // Writes the path of the first k of the roles in order, from the term t to y.
-    pub fn path(
-        self,
-        room: &mut [u16],
-        k: usize,
-        a: RoleUse,
-        b: RoleUse,
-        c: RoleUse,
-        d: RoleUse,
-        t: u16,
-    ) -> Cursor
-        requires { RoomyPath room.old self k a b c d }
-        ensures { Pathed room.old room.new self result t k a b c d }
+    // Writes the path of the roles in order, from the term t to y.
+    pub fn path(self, room: &mut [u16], roles: &[RoleUse], t: u16) -> Cursor
+        requires { RoomyPath room.old self roles.now }
+        ensures { Pathed room.old room.new self result t roles.now }
     {
-        if k == 1 {
-            return self.link(room, a, t, 1);
+        match roles {
+            [] => self,
+            [last] => self.link(room, *last, t, 1),
+            [first, rest @ ..] => {
+                let y = self.next;
+                let linked = self.link(room, *first, t, y);
+                let fresh = Cursor {
+                    next: y + 1,
+                    ..linked
+                };
+                fresh.path(room, rest, y)
+            }
         }
-        let y = self.next;
-        let linked = self.link(room, a, t, y);
-        let fresh = Cursor {
-            next: y + 1,
-            place: linked.place,
-        };
-        fresh.path(room, k - 1, b, c, d, d, y)
     }
 }

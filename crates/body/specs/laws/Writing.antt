@@ -1,6 +1,6 @@
 -- Laws of writing: one for each step of the compiler. Assumes nothing.
-use Rattle.std.specs.Prelude.{◌≡◌, refl, Bool, true, false, List, [], ◌∷◌, ◌++◌, ℕ, zero, suc, ◌+◌, ◌*◌, ◌-◌, ◌/◌, ◌<◌, ◌≤◌, length, take}
-use Rattle.std.proofs.Common.{sym, ap, subst, subst₂, ◌∙◌, suc-mul, pos_of_ne-zero, sub-one, arith, length-append, length-take}
+use Rattle.std.specs.Prelude.{◌≡◌, refl, Bool, true, false, List, [], ◌∷◌, ◌++◌, ℕ, zero, suc, ◌+◌, ◌*◌, ◌-◌, ◌/◌, ◌<◌, ◌≤◌, length}
+use Rattle.std.proofs.Common.{sym, ap, subst, subst₂, ◌∙◌, suc-mul, pos_of_ne-zero, sub-one, arith, length-append}
 use Rattle.std.proofs.Math.Nat.{mul-div_cancel_left}
 use Rattle.std.proofs.Math.Seq.{length-sets}
 use Rattle.logic.specs.laws.Sets.{sets-append}
@@ -17,7 +17,7 @@ use Rattle.body.specs.declared.Cursor.{Cursor}
 use Rattle.body.specs.Body.{first_item, Atom, eq, Body, end, atom, ◌⊕◌, flat}
 use Rattle.body.specs.Translation.{link_way, link, variables, turns, news, apart, pairs, of_expr, path, without}
 use Rattle.body.specs.Length.{length_of}
-use Rattle.body.specs.own.Writing.{SmallRole, SmallPath, Wrote, RoomFor, Roomy, Written, RoomyTurns, Turned, RoomyApart, Parted, RoomyPairs, Paired, RoomyPath, Pathed}
+use Rattle.body.specs.own.Writing.{Wrote, RoomFor, Roomy, Written, RoomyTurns, Turned, RoomyApart, Parted, RoomyPairs, Paired, RoomyPath, Pathed}
 use Rattle.body.specs.laws.Body.{flat-⊕, size-⊕, length-flat}
 use Rattle.body.specs.laws.Length.{size-expr, size-apart-news, size-pairs-news, size-turns-expr}
 
@@ -279,52 +279,28 @@ least-done l l₁ l₂ c c₁ c₂ t n s R e z p q =
 
 -- ---- the path of a chain
 
-abbrev first_roles : ℕ → RoleUse → RoleUse → RoleUse → RoleUse → List RoleUse
-first_roles k r1 r2 r3 r4 = take k (r1 ∷ r2 ∷ r3 ∷ r4 ∷ [])
+pub path-none : (l : List ℕ) (c : Cursor) (t : ℕ) → Pathed l l c c t []
+path-none l c t = record { wrote = nothing l c }
 
--- without the first role, which a later place can stand for
-shifted : (k : ℕ) (r1 r2 r3 r4 : RoleUse) → ¬ (k ≡ 1) → 1 ≤ k → k ≤ 4 → first_roles k r1 r2 r3 r4 ≡ r1 ∷ first_roles (k - 1) r2 r3 r4 r4
-shifted zero r1 r2 r3 r4 ne l h = absurd (omega arith)
-shifted (suc zero) r1 r2 r3 r4 ne l h = absurd (ne refl)
-shifted (suc (suc zero)) r1 r2 r3 r4 ne l h = refl
-shifted (suc (suc (suc zero))) r1 r2 r3 r4 ne l h = refl
-shifted (suc (suc (suc (suc zero)))) r1 r2 r3 r4 ne l h = refl
-shifted (suc (suc (suc (suc (suc k))))) r1 r2 r3 r4 ne l h = absurd (omega arith)
+pub path_room : (l : List ℕ) (c : Cursor) (r : RoleUse) (rs : List RoleUse) → RoomyPath l c (r ∷ rs) → RoomFor l c 1 r
+path_room l c r rs p = record { fits = (let h = p.fits in omega arith); small = p.small.0 }
 
-path-first : (rs : List RoleUse) (r : RoleUse) (t v : ℕ) → 1 ≤ length rs → flat (path (r ∷ rs) t v) ≡ flat (atom (link r t v) end) ++ flat (path rs v (v + 1))
-path-first [] r t v l = absurd (omega arith)
-path-first (q ∷ rs) r t v l = flat-link r t v (path (q ∷ rs) v (v + 1))
+pub path-rest : (l l₁ : List ℕ) (c c₁ d : Cursor) (t : ℕ) (r : RoleUse) (rs : List RoleUse) → RoomyPath l c (r ∷ rs) → Wrote l l₁ c c₁ (flat (atom (link r t c.next) end)) 0
+    → d.place ≡ c₁.place → d.next ≡ c.next + 1 → RoomyPath l₁ d rs
+path-rest l l₁ c c₁ d t r rs p w dp dn = record {
+  fits = (let h = p.fits in let k = w.place in omega (arith, wrote-length l l₁ c c₁ _ _ w, link-words r t c.next));
+  vars = (let h = p.vars in omega arith);
+  small = p.small.1;
+}
 
-small-first : (k : ℕ) (r1 r2 r3 r4 : RoleUse) → 1 ≤ k → SmallPath (first_roles k r1 r2 r3 r4) → SmallRole r1
-small-first zero r1 r2 r3 r4 l h = absurd (omega arith)
-small-first (suc k) r1 r2 r3 r4 l h = h.0
+pub path-last : (l l₁ : List ℕ) (c c₁ : Cursor) (t : ℕ) (r : RoleUse) → Wrote l l₁ c c₁ (flat (atom (link r t 1) end)) 0 → Pathed l l₁ c c₁ t (r ∷ [])
+path-last l l₁ c c₁ t r w = record { wrote = w }
 
-pub path_room : (l : List ℕ) (c : Cursor) (k : ℕ) (r1 r2 r3 r4 : RoleUse) → RoomyPath l c k r1 r2 r3 r4 → RoomFor l c 1 r1
-path_room l c k r1 r2 r3 r4 r = record { fits = (let h = r.fits in let j = r.some in omega arith); small = small-first k r1 r2 r3 r4 r.some r.small }
-
-pub path-rest : (l l₁ : List ℕ) (c c₁ d : Cursor) (t k : ℕ) (r1 r2 r3 r4 : RoleUse) → ¬ (k ≡ 1) → RoomyPath l c k r1 r2 r3 r4 → Wrote l l₁ c c₁ (flat (atom (link r1 t c.next) end)) 0
-    → d.place ≡ c₁.place → d.next ≡ c.next + 1 → RoomyPath l₁ d (k - 1) r2 r3 r4 r4
-path-rest l l₁ c c₁ d t k r1 r2 r3 r4 ne r w dp dn =
-    let s : SmallPath (r1 ∷ first_roles (k - 1) r2 r3 r4 r4) = subst SmallPath (shifted k r1 r2 r3 r4 ne r.some r.few) r.small in
-    record {
-      fits = (let h = r.fits in let p = w.place in let j = r.some in omega (arith, wrote-length l l₁ c c₁ _ _ w, link-words r1 t c.next));
-      vars = (let h = r.vars in let j = r.some in omega arith);
-      some = (let j = r.some in omega arith);
-      few = (let j = r.few in omega arith);
-      small = s.1;
-    }
-
-pub path-last : (l l₁ : List ℕ) (c c₁ : Cursor) (t k : ℕ) (r1 r2 r3 r4 : RoleUse) → k ≡ 1 → Wrote l l₁ c c₁ (flat (atom (link r1 t 1) end)) 0 → Pathed l l₁ c c₁ t k r1 r2 r3 r4
-path-last l l₁ c c₁ t k r1 r2 r3 r4 e w = rw e (record { wrote = w })
-
-pub path-done : (l l₁ l₂ : List ℕ) (c c₁ d c₂ : Cursor) (t k : ℕ) (r1 r2 r3 r4 : RoleUse) → ¬ (k ≡ 1) → RoomyPath l c k r1 r2 r3 r4 → Wrote l l₁ c c₁ (flat (atom (link r1 t c.next) end)) 0
-    → d.place ≡ c₁.place → d.next ≡ c.next + 1 → Pathed l₁ l₂ d c₂ c.next (k - 1) r2 r3 r4 r4 → Pathed l l₂ c c₂ t k r1 r2 r3 r4
-path-done l l₁ l₂ c c₁ d c₂ t k r1 r2 r3 r4 ne r w dp dn p =
+pub path-done : (l l₁ l₂ : List ℕ) (c c₁ d c₂ : Cursor) (t : ℕ) (r q : RoleUse) (rs : List RoleUse) → Wrote l l₁ c c₁ (flat (atom (link r t c.next) end)) 0
+    → d.place ≡ c₁.place → d.next ≡ c.next + 1 → Pathed l₁ l₂ d c₂ c.next (q ∷ rs) → Pathed l l₂ c c₂ t (r ∷ q ∷ rs)
+path-done l l₁ l₂ c c₁ d c₂ t r q rs w dp dn p =
     let y : ℕ = c.next in
-    let rs : List RoleUse = first_roles (k - 1) r2 r3 r4 r4 in
-    let w' : Wrote l l₁ c d (flat (atom (link r1 t y) end)) 1 = record { room = w.room; place = dp ∙ w.place; next = dn } in
-    let p' : Wrote l₁ l₂ d c₂ (flat (path rs y (y + 1))) (k - 1 - 1) = subst (λ v. Wrote l₁ l₂ d c₂ (flat (path rs y v)) (k - 1 - 1)) dn p.wrote in
-    let all : Wrote l l₂ c c₂ (flat (atom (link r1 t y) end) ++ flat (path rs y (y + 1))) (1 + (k - 1 - 1)) = then l l₁ l₂ c d c₂ _ _ 1 _ w' p' in
-    let long : 1 ≤ length rs = (let i = r.some in let j = r.few in omega (arith, length-take (k - 1) (r2 ∷ r3 ∷ r4 ∷ r4 ∷ []))) in
-    let e : flat (path (first_roles k r1 r2 r3 r4) t y) ≡ flat (atom (link r1 t y) end) ++ flat (path rs y (y + 1)) = ap (λ z. flat (path z t y)) (shifted k r1 r2 r3 r4 ne r.some r.few) ∙ path-first rs r1 t y long in
-    record { wrote = subst₂ (Wrote l l₂ c c₂) (sym e) (let i = r.some in omega arith) all }
+    let w' : Wrote l l₁ c d (flat (atom (link r t y) end)) 1 = record { room = w.room; place = dp ∙ w.place; next = dn } in
+    let p' : Wrote l₁ l₂ d c₂ (flat (path (q ∷ rs) y (y + 1))) (length (q ∷ rs) - 1) = subst (λ v. Wrote l₁ l₂ d c₂ (flat (path (q ∷ rs) y v)) (length (q ∷ rs) - 1)) dn p.wrote in
+    let all : Wrote l l₂ c c₂ (flat (atom (link r t y) end) ++ flat (path (q ∷ rs) y (y + 1))) (1 + (length (q ∷ rs) - 1)) = then l l₁ l₂ c d c₂ _ _ 1 _ w' p' in
+    record { wrote = subst₂ (Wrote l l₂ c c₂) (sym (flat-link r t y (path (q ∷ rs) y (y + 1)))) (omega arith) all }

@@ -1,5 +1,5 @@
 -- What the parts of compiling ask and leave: a cursor that writes items into a room, and lengths that stop at one past the limit.
-use Rattle.std.specs.Prelude.{◌≡◌, List, [], ◌∷◌, ℕ, ◌+◌, ◌*◌, ◌-◌, ◌≤◌, ◌<◌, min, length, take}
+use Rattle.std.specs.Prelude.{◌≡◌, List, [], ◌∷◌, ℕ, ◌+◌, ◌*◌, ◌-◌, ◌≤◌, ◌<◌, min, length}
 use Rattle.std.proofs.lemmas.List.Edits.{sets}
 use Rattle.rule.specs.declared.Head.{Head}
 use Rattle.rule.specs.declared.RoleUse.{RoleUse}
@@ -8,6 +8,8 @@ use Rattle.rule.specs.Form.{count_limit}
 use Rattle.rule.specs.Expr.{Expr}
 use Rattle.rule.specs.Expr.Expr.{name, top, neg, both, many, own, one}
 use Rattle.body.specs.declared.Cursor.{Cursor}
+use Rattle.body.specs.declared.Kind.{Kind}
+use Rattle.body.specs.declared.Kind.TheVariants.{Concept, Role, Equality, Open, Close}
 use Rattle.body.specs.Body.{first_item, flat, size}
 use Rattle.body.specs.Translation.{variables, turns, news, apart, pairs, of_expr, path}
 use Rattle.body.specs.Length.{length_of, head_length, item_limit}
@@ -31,6 +33,14 @@ Small (own u) = SmallRole u
 Small (one a) = a.0 < first_item
 
 -- ---- writing
+
+-- the word of a kind
+abbrev pub word_of : Kind → ℕ
+word_of Concept = 1
+word_of Role = 2
+word_of Equality = 3
+word_of Open = 4
+word_of Close = 5
 
 -- the words ws were written at the cursor's place and all else is as it was; so many variables were taken
 pub record Wrote (before after : List ℕ) (c r : Cursor) (ws : List ℕ) (vars : ℕ) : Type 0 where
@@ -80,16 +90,14 @@ pub record RoomyPairs (room : List ℕ) (c : Cursor) (y stride n : ℕ) : Type 0
 pub record Paired (before after : List ℕ) (c r : Cursor) (y stride n : ℕ) : Type 0 where
   pub wrote : Wrote before after c r (flat (pairs (news stride n y))) 0
 
--- the same for a path of the first k of the roles
-pub record RoomyPath (room : List ℕ) (c : Cursor) (k : ℕ) (r1 r2 r3 r4 : RoleUse) : Type 0 where
-  pub fits : c.place + 4 * k ≤ length room
-  pub vars : c.next + k ≤ first_item
-  pub some : 1 ≤ k
-  pub few : k ≤ 4
-  pub small : SmallPath (take k (r1 ∷ r2 ∷ r3 ∷ r4 ∷ []))
+-- the same for a path of the roles rs
+pub record RoomyPath (room : List ℕ) (c : Cursor) (rs : List RoleUse) : Type 0 where
+  pub fits : c.place + 4 * length rs ≤ length room
+  pub vars : c.next + length rs ≤ first_item
+  pub small : SmallPath rs
 
-pub record Pathed (before after : List ℕ) (c r : Cursor) (t k : ℕ) (r1 r2 r3 r4 : RoleUse) : Type 0 where
-  pub wrote : Wrote before after c r (flat (path (take k (r1 ∷ r2 ∷ r3 ∷ r4 ∷ [])) t c.next)) (k - 1)
+pub record Pathed (before after : List ℕ) (c r : Cursor) (t : ℕ) (rs : List RoleUse) : Type 0 where
+  pub wrote : Wrote before after c r (flat (path rs t c.next)) (length rs - 1)
 
 -- ---- lengths
 

@@ -1,0 +1,2 @@
+-- What several proofs of a query's body share.
+pub mod Nodes
