@@ -4,10 +4,10 @@ ghost use Rattle.text.specs.own.Split.{part_of};
 ghost use Rattle.text.specs.own.Chunk.{low};
 
 // A byte as a number.
-fn wide(b: u8) -> u64
+pub fn wide(b: u8) -> u64
     ensures { (result ≡ b) × (result ≤ 255) }
 {
-    b as u64
+    u64::from(b)
 }
 
 // Four bytes as one number, the first lowest.
@@ -58,13 +58,7 @@ fn same_middle(text: &[u8], start: usize, w: &[u8]) -> bool
     ensures { result ≡ same w.now (part_of text.now start (length w.now)) }
 {
     let last = w.len() - 4;
-    if four(text, start + last) != four(w, last) {
-        return false;
-    }
-    if four(text, start) != four(w, 0) {
-        return false;
-    }
-    true
+    four(text, start + last) == four(w, last) && four(text, start) == four(w, 0)
 }
 
 // The same of any bytes.
@@ -79,12 +73,10 @@ pub fn same_at(text: &[u8], start: usize, w: &[u8]) -> bool
     if 4 <= n {
         return same_middle(text, start, w);
     }
-    let mut i = 0;
-    while i < n {
+    for i in 0..n {
         if text[start + i] != w[i] {
             return false;
         }
-        i += 1;
     }
     true
 }

@@ -8,7 +8,6 @@ pub fn put(room: &mut [u8], at: usize, b: u8) -> usize
 {
     if at < room.len() {
         room[at] = b;
-        return at + 1;
     }
     at + 1
 }
@@ -17,10 +16,7 @@ pub fn put(room: &mut [u8], at: usize, b: u8) -> usize
 fn fitting(room: usize, at: usize, count: usize) -> usize
     ensures { result ≡ min count (room - at) }
 {
-    if at < room {
-        return row::number::lesser(count, room - at);
-    }
-    0
+    count.min(room.saturating_sub(at))
 }
 
 // Writes bytes at a place of the room, as far as it reaches; gives the place past them.
@@ -29,10 +25,8 @@ pub fn put_all(room: &mut [u8], at: usize, bytes: &[u8]) -> usize
     ensures { Wrote room.old at bytes.now room.new result }
 {
     let n = fitting(room.len(), at, bytes.len());
-    let mut i = 0;
-    while i < n {
+    for i in 0..n {
         room[at + i] = bytes[i];
-        i += 1;
     }
     at + bytes.len()
 }

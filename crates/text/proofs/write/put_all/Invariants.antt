@@ -1,12 +1,7 @@
 -- `text::write::put_all` meets its contract. Assumes nothing.
-use mathlib.Core.Path.{◌≡◌}
-use Prim.Native.Nat.{◌≤◌, ◌-◌, ◌+◌, min}
-use lib.ListN.{length, drop}
-use lib.Seq.{sets}
+use Rattle.std.proofs.Common.{◌≡◌, ◌-◌, ◌+◌, min, length, drop}
+use Rattle.std.proofs.lemmas.List.Edits.{sets}
 use Rattle.text.proofs.write.put_all.Given as goal
 
 abbrev pub invariant-loop-i : goal.invariant-loop-i
-invariant-loop-i l = (l.i ≤ l.n) × (l.n ≡ min (length l.bytes) (length l.initial.room - l.at)) × (length l.room ≡ length l.initial.room) × (sets l.initial.room l.at l.bytes ≡ sets l.room (l.at + l.i) (drop l.i l.bytes))
-
-abbrev pub decreases-loop-i : goal.decreases-loop-i
-decreases-loop-i l = l.n - l.i
+invariant-loop-i l = (l.n ≡ min (length l.bytes) (length l.initial.room - l.at)) × (length l.room ≡ length l.initial.room) × (sets l.initial.room l.at l.bytes ≡ sets l.room (l.at + l.i) (drop l.i l.bytes))
