@@ -42,6 +42,7 @@ pub fn count(s: &[u8], t: u8) -> usize
 pub fn place(w: &[u8], words: &[u8]) -> usize
     ensures { result ≡ place_of w.now (split 32 words.now) }
 {
+    // A while, since the place goes on from one end to the next; over split(..) the answer for no word would need a second pass.
     let mut k = 0;
     let mut at = 0;
     while at <= words.len() {

@@ -12,21 +12,14 @@ pub fn put(room: &mut [u8], at: usize, b: u8) -> usize
     at + 1
 }
 
-// How many of so many bytes have place in the room from a place on.
-fn fitting(room: usize, at: usize, count: usize) -> usize
-    ensures { result ≡ min count (room - at) }
-{
-    count.min(room.saturating_sub(at))
-}
-
 // Writes bytes at a place of the room, as far as it reaches; gives the place past them.
 pub fn put_all(room: &mut [u8], at: usize, bytes: &[u8]) -> usize
     requires { (at < 1000000) × (length bytes.now ≤ 100000) }
     ensures { Wrote room.old at bytes.now room.new result }
 {
-    let n = fitting(room.len(), at, bytes.len());
-    for i in 0..n {
-        room[at + i] = bytes[i];
+    if at < room.len() {
+        let n = bytes.len().min(room.len() - at);
+        room[at..at + n].copy_from_slice(&bytes[..n]);
     }
     at + bytes.len()
 }

@@ -1,5 +1,5 @@
 -- `text::name::is_name` meets its contract. Assumes nothing.
-use Rattle.std.proofs.Common.{rules, tests, sym, ◌∙◌, ◌≡◌, true}
+use Rattle.std.proofs.Common.{rules, tests, sym, ◌∙◌, ◌≡◌}
 use Rattle.std.proofs.lemmas.Iterator.{YieldsList-from_slice}
 use Rattle.std.proofs.lemmas.Iterator.Search.{all_from_yields_List}
 use Rattle.text.specs.Bytes.{every}
