@@ -1,5 +1,4 @@
 -- What is proved of the statements and rules that lines say.
-pub mod Packed
 pub mod Read
 pub mod Nodes
 pub mod Parse

@@ -1,30 +1,28 @@
 ghost use Rattle.std.specs.Prelude.{◌≡◌, [], ◌∷◌, ◌+◌, ◌≤◌, ◌<◌, length, drop};
-ghost use Rattle.text.specs.Split.{fields};
 ghost use Rattle.rule.specs.Form.{node_limit};
-ghost use Rattle.field.specs.Names.{nodes_of};
-ghost use Rattle.field.specs.own.Line.{Looked};
-ghost use Rattle.field.specs.own.Table.{Tidy, names_of, table_of};
-ghost use Rattle.packed.specs.own.Packed.{pack_limit};
+ghost use Rattle.field.specs.Names.{count_of, nodes_of};
+ghost use Rattle.field.specs.Words.{at as field_of};
+ghost use Rattle.field.specs.own.Known.{fields_in, names_in};
 ghost use Rattle.saying.specs.own.Nodes.{Joined, PutAll, ReadsOne, Ready, children_of, fill_and, head_fields, head_nodes};
 
 use crate::Parsed;
 use field::Operator;
-use packed::Packed;
-use rule::Node;
-use store::Counts;
+use field::known::{Fields, Known};
+use rule::{Node, RoleUse, Rule, Slot};
+use stated::numbers;
 
 // One node more; gives how many there are.
-fn put(nodes: &mut [usize], len: usize, node: Node) -> usize
-    requires { (length nodes.old ≡ pack_limit) × (len < node_limit) }
+fn put(nodes: &mut [Slot; Rule::NODES], len: usize, node: Node) -> usize
+    requires { len < node_limit }
     ensures { PutAll nodes.old len (node ∷ []) nodes.new result }
 {
-    packed::put(nodes, len, node);
+    nodes[len] = Slot { node };
     len + 1
 }
 
 // Two nodes more.
-fn put_two(nodes: &mut [usize], len: usize, a: Node, b: Node) -> usize
-    requires { (length nodes.old ≡ pack_limit) × (len + 2 ≤ node_limit) }
+fn put_two(nodes: &mut [Slot; Rule::NODES], len: usize, a: Node, b: Node) -> usize
+    requires { len + 2 ≤ node_limit }
     ensures { PutAll nodes.old len (a ∷ b ∷ []) nodes.new result }
 {
     let n = put(nodes, len, a);
@@ -32,8 +30,8 @@ fn put_two(nodes: &mut [usize], len: usize, a: Node, b: Node) -> usize
 }
 
 // Three nodes more.
-fn put_three(nodes: &mut [usize], len: usize, a: Node, b: Node, c: Node) -> usize
-    requires { (length nodes.old ≡ pack_limit) × (len + 3 ≤ node_limit) }
+fn put_three(nodes: &mut [Slot; Rule::NODES], len: usize, a: Node, b: Node, c: Node) -> usize
+    requires { len + 3 ≤ node_limit }
     ensures { PutAll nodes.old len (a ∷ b ∷ c ∷ []) nodes.new result }
 {
     let n = put_two(nodes, len, a, b);
@@ -45,142 +43,86 @@ fn head_fields(o: Operator) -> usize
     ensures { result ≡ head_fields o }
 {
     match o {
-        Operator::And => 1,
-        Operator::Or => 1,
-        Operator::Not => 1,
-        Operator::Some => 2,
-        Operator::All => 2,
-        Operator::AtLeast => 3,
-        Operator::AtMost => 3,
-        Operator::SelfOf => 2,
-        Operator::One => 2,
-        Operator::Top => 1,
-        Operator::Bot => 1,
-        Operator::None => 1,
+        Operator::AtLeast | Operator::AtMost => 3,
+        Operator::Some | Operator::All | Operator::SelfOf | Operator::One => 2,
+        _ => 1,
     }
 }
 
 // The nodes of `or`, written after the first i; gives how many there are then.
-fn put_or(nodes: &mut [usize], i: usize) -> usize
-    requires { (length nodes.old ≡ pack_limit) × (i + 3 ≤ node_limit) }
+fn put_or(nodes: &mut [Slot; Rule::NODES], i: usize) -> usize
+    requires { i + 3 ≤ node_limit }
     ensures { PutAll nodes.old i (Node.Not (i + 1) ∷ Node.And (i + 2) 0 ∷ Node.Not (i + 3) ∷ []) nodes.new result }
 {
-    let and = Node::And(i + 2, 0);
-    put_three(nodes, i, Node::Not(i + 1), and, Node::Not(i + 3))
+    put_three(
+        nodes,
+        i,
+        Node::Not(i + 1),
+        Node::And(i + 2, 0),
+        Node::Not(i + 3),
+    )
 }
 
-// The nodes of `some`, which is the field with the number k; its role is the next field.
-fn put_some(
-    sheet: &[u8],
-    names: &[u32],
-    counts: Counts,
-    line: &[u8],
-    ends: &[u16],
-    nodes: &mut [usize],
-    i: usize,
-    k: usize,
-) -> usize
-    requires { Tidy sheet.now (table_of names.now counts) × Looked line.now ends.now × (length nodes.old ≡ pack_limit) × (i < node_limit) × (k < length ends.now) }
-    ensures { PutAll nodes.old i (head_nodes (names_of sheet.now (table_of names.now counts)) Operator.Some i (drop k (fields line.now))) nodes.new result }
+// The nodes of `all` with the role u.
+fn put_every(nodes: &mut [Slot; Rule::NODES], i: usize, u: RoleUse) -> usize
+    requires { i + 3 ≤ node_limit }
+    ensures { PutAll nodes.old i (Node.Not (i + 1) ∷ Node.AtLeast 1 u (i + 2) ∷ Node.Not (i + 3) ∷ []) nodes.new result }
 {
-    let u = stated::numbers::role_use(sheet, names, counts, line, ends, k + 1);
-    put(nodes, i, Node::AtLeast(1, u, i + 1))
+    put_three(
+        nodes,
+        i,
+        Node::Not(i + 1),
+        Node::AtLeast(1, u, i + 2),
+        Node::Not(i + 3),
+    )
 }
 
-// The nodes of `all`, which is the field with the number k; its role is the next field.
-fn put_every(
-    sheet: &[u8],
-    names: &[u32],
-    counts: Counts,
-    line: &[u8],
-    ends: &[u16],
-    nodes: &mut [usize],
-    i: usize,
-    k: usize,
-) -> usize
-    requires { Tidy sheet.now (table_of names.now counts) × Looked line.now ends.now × (length nodes.old ≡ pack_limit) × (i + 3 ≤ node_limit) × (k < length ends.now) }
-    ensures { PutAll nodes.old i (head_nodes (names_of sheet.now (table_of names.now counts)) Operator.All i (drop k (fields line.now))) nodes.new result }
+// The count that the field with the number k says, or 255.
+fn count(fields: &Fields, k: usize) -> usize
+    ensures { (result ≡ count_of (field_of k (fields_in fields.now))) × (result ≤ 255) }
 {
-    let u = stated::numbers::role_use(sheet, names, counts, line, ends, k + 1);
-    let some = Node::AtLeast(1, u, i + 2);
-    put_three(nodes, i, Node::Not(i + 1), some, Node::Not(i + 3))
-}
-
-// The nodes of `atleast`, which is the field with the number k; its count and its role are the next two.
-fn put_at_least(
-    sheet: &[u8],
-    names: &[u32],
-    counts: Counts,
-    line: &[u8],
-    ends: &[u16],
-    nodes: &mut [usize],
-    i: usize,
-    k: usize,
-) -> usize
-    requires { Tidy sheet.now (table_of names.now counts) × Looked line.now ends.now × (length nodes.old ≡ pack_limit) × (i < node_limit) × (k < length ends.now) }
-    ensures { PutAll nodes.old i (head_nodes (names_of sheet.now (table_of names.now counts)) Operator.AtLeast i (drop k (fields line.now))) nodes.new result }
-{
-    let u = stated::numbers::role_use(sheet, names, counts, line, ends, k + 2);
-    let m = field::names::count(stated::numbers::nth(line, ends, k + 1));
-    put(nodes, i, Node::AtLeast(m, u, i + 1))
-}
-
-// The nodes of `atmost`, which is the field with the number k; its count and its role are the next two.
-fn put_at_most(
-    sheet: &[u8],
-    names: &[u32],
-    counts: Counts,
-    line: &[u8],
-    ends: &[u16],
-    nodes: &mut [usize],
-    i: usize,
-    k: usize,
-) -> usize
-    requires { Tidy sheet.now (table_of names.now counts) × Looked line.now ends.now × (length nodes.old ≡ pack_limit) × (i + 2 ≤ node_limit) × (k < length ends.now) }
-    ensures { PutAll nodes.old i (head_nodes (names_of sheet.now (table_of names.now counts)) Operator.AtMost i (drop k (fields line.now))) nodes.new result }
-{
-    let u = stated::numbers::role_use(sheet, names, counts, line, ends, k + 2);
-    let m = field::names::count(stated::numbers::nth(line, ends, k + 1));
-    put_two(nodes, i, Node::Not(i + 1), Node::AtLeast(m + 1, u, i + 2))
+    field::names::count(numbers::nth(fields, k))
 }
 
 // The nodes that a word stands for, written after the first i; gives how many there are then. The word is the field with the number k.
 fn put_head(
-    sheet: &[u8],
-    names: &[u32],
-    counts: Counts,
-    line: &[u8],
-    ends: &[u16],
-    nodes: &mut [usize],
+    known: &Known,
+    fields: &Fields,
+    nodes: &mut [Slot; Rule::NODES],
     i: usize,
     k: usize,
     o: Operator,
 ) -> usize
-    requires { Tidy sheet.now (table_of names.now counts) × Looked line.now ends.now × (length nodes.old ≡ pack_limit) × (i + nodes_of o ≤ node_limit) × (k < length ends.now) }
-    ensures { PutAll nodes.old i (head_nodes (names_of sheet.now (table_of names.now counts)) o i (drop k (fields line.now))) nodes.new result }
+    requires { (i + nodes_of o ≤ node_limit) × (k < length fields.now.ends.now) }
+    ensures { PutAll nodes.old i (head_nodes (names_in known.now) o i (drop k (fields_in fields.now))) nodes.new result }
 {
     match o {
         Operator::And => put(nodes, i, Node::And(i + 1, 0)),
         Operator::Or => put_or(nodes, i),
         Operator::Not => put(nodes, i, Node::Not(i + 1)),
-        Operator::Some => put_some(sheet, names, counts, line, ends, nodes, i, k),
-        Operator::All => put_every(sheet, names, counts, line, ends, nodes, i, k),
-        Operator::AtLeast => put_at_least(sheet, names, counts, line, ends, nodes, i, k),
-        Operator::AtMost => put_at_most(sheet, names, counts, line, ends, nodes, i, k),
-        Operator::SelfOf => {
-            let u = stated::numbers::role_use(sheet, names, counts, line, ends, k + 1);
-            put(nodes, i, Node::SelfOf(u))
+        Operator::Some => {
+            let u = numbers::role_use(known, fields, k + 1);
+            put(nodes, i, Node::AtLeast(1, u, i + 1))
         }
-        Operator::One => {
-            let a = stated::numbers::item(sheet, names, counts, line, ends, k + 1);
-            put(nodes, i, Node::One(a))
+        Operator::All => put_every(nodes, i, numbers::role_use(known, fields, k + 1)),
+        Operator::AtLeast => {
+            let u = numbers::role_use(known, fields, k + 2);
+            put(nodes, i, Node::AtLeast(count(fields, k + 1), u, i + 1))
         }
+        Operator::AtMost => {
+            let u = numbers::role_use(known, fields, k + 2);
+            let more = Node::AtLeast(count(fields, k + 1) + 1, u, i + 2);
+            put_two(nodes, i, Node::Not(i + 1), more)
+        }
+        Operator::SelfOf => put(
+            nodes,
+            i,
+            Node::SelfOf(numbers::role_use(known, fields, k + 1)),
+        ),
+        Operator::One => put(nodes, i, Node::One(numbers::item(known, fields, k + 1))),
         Operator::Top => put(nodes, i, Node::Top),
         Operator::Bot => put_two(nodes, i, Node::Not(i + 1), Node::Top),
-        Operator::None => {
-            let a = stated::numbers::concept(sheet, names, counts, line, ends, k);
-            put(nodes, i, Node::Name(a))
-        }
+        Operator::None => put(nodes, i, Node::Name(numbers::concept(known, fields, k))),
     }
 }
 
@@ -189,32 +131,25 @@ fn children(o: Operator) -> usize
     ensures { result ≡ children_of o }
 {
     match o {
-        Operator::And => 2,
-        Operator::Or => 2,
-        Operator::Not => 1,
-        Operator::Some => 1,
-        Operator::All => 1,
-        Operator::AtLeast => 1,
-        Operator::AtMost => 1,
-        Operator::SelfOf => 0,
-        Operator::One => 0,
-        Operator::Top => 0,
-        Operator::Bot => 0,
-        Operator::None => 0,
+        Operator::And | Operator::Or => 2,
+        Operator::SelfOf | Operator::One | Operator::Top | Operator::Bot | Operator::None => 0,
+        _ => 1,
     }
 }
 
 // The `and` at a place gets its second child: the next node.
-fn fill_and(nodes: &mut [usize], i: usize, len: usize)
-    requires { (length nodes.old ≡ pack_limit) × (i < node_limit) }
+fn fill_and(nodes: &mut [Slot; Rule::NODES], i: usize, len: usize)
+    requires { i < node_limit }
     ensures { nodes.new ≡ fill_and nodes.old i len }
 {
-    nodes[Packed::NUMBERS * i + 2] = len;
+    nodes[i] = Slot {
+        node: Node::And(i + 1, len),
+    };
 }
 
 // What stands before the nodes of the second child of a word whose nodes begin at a place; gives how many nodes there are then.
-fn join(o: Operator, nodes: &mut [usize], i: usize, len: usize) -> usize
-    requires { (length nodes.old ≡ pack_limit) × (i + 1 < node_limit) × (len < node_limit) }
+fn join(o: Operator, nodes: &mut [Slot; Rule::NODES], i: usize, len: usize) -> usize
+    requires { (i + 1 < node_limit) × (len < node_limit) }
     ensures { Joined o nodes.old i len nodes.new result }
 {
     match o {
@@ -226,38 +161,26 @@ fn join(o: Operator, nodes: &mut [usize], i: usize, len: usize) -> usize
             fill_and(nodes, i + 1, len);
             put(nodes, len, Node::Not(len + 1))
         }
-        Operator::Not => len,
-        Operator::Some => len,
-        Operator::All => len,
-        Operator::AtLeast => len,
-        Operator::AtMost => len,
-        Operator::SelfOf => len,
-        Operator::One => len,
-        Operator::Top => len,
-        Operator::Bot => len,
-        Operator::None => len,
+        _ => len,
     }
 }
 
 // Reads the expression that begins at the field p.at, of at most `left` words in depth, and writes its nodes after the first p.len.
 pub fn read_expr(
-    sheet: &[u8],
-    names: &[u32],
-    counts: Counts,
-    line: &[u8],
-    ends: &[u16],
-    nodes: &mut [usize],
+    known: &Known,
+    fields: &Fields,
+    nodes: &mut [Slot; Rule::NODES],
     p: Parsed,
     left: usize,
 ) -> Parsed
-    requires { Tidy sheet.now (table_of names.now counts) × Looked line.now ends.now × (length nodes.old ≡ pack_limit) × Ready (drop p.at (fields line.now)) p.len left }
-    ensures { ReadsOne (names_of sheet.now (table_of names.now counts)) (fields line.now) left p nodes.old nodes.new result }
+    requires { Ready (drop p.at (fields_in fields.now)) p.len left }
+    ensures { ReadsOne (names_in known.now) (fields_in fields.now) left p nodes.old nodes.new result }
 {
     if left == 0 {
         return p;
     }
-    let o = field::words::operator(stated::numbers::nth(line, ends, p.at));
-    let len = put_head(sheet, names, counts, line, ends, nodes, p.len, p.at, o);
+    let o = field::words::operator(numbers::nth(fields, p.at));
+    let len = put_head(known, fields, nodes, p.len, p.at, o);
     let word = Parsed {
         len,
         at: p.at + head_fields(o),
@@ -266,7 +189,7 @@ pub fn read_expr(
     if k == 0 {
         return word;
     }
-    let first = read_expr(sheet, names, counts, line, ends, nodes, word, left - 1);
+    let first = read_expr(known, fields, nodes, word, left - 1);
     if k == 1 {
         return first;
     }
@@ -274,5 +197,5 @@ pub fn read_expr(
         len: join(o, nodes, p.len, first.len),
         at: first.at,
     };
-    read_expr(sheet, names, counts, line, ends, nodes, second, left - 1)
+    read_expr(known, fields, nodes, second, left - 1)
 }

@@ -2,7 +2,6 @@
 #![tactic(auto)]
 
 mod expressions;
-mod places;
 pub mod rules;
 
 // How far the expressions of a line are read: how many nodes are written so far, and the number of the field past them.

@@ -1,15 +1,24 @@
-ghost use Rattle.std.specs.Prelude.{◌≡◌, ◌-◌, ◌≤◌, length, drop};
-ghost use Rattle.text.specs.Split.{fields};
-ghost use Rattle.field.specs.own.Line.{Looked};
-ghost use Rattle.field.specs.own.Table.{Tidy, names_of, table_of};
+ghost use Rattle.std.specs.Prelude.{◌≡◌, ◌≤◌, drop};
+ghost use Rattle.field.specs.Words.{at as field_of};
+ghost use Rattle.field.specs.own.Known.{fields_in, names_in};
 ghost use Rattle.saying.specs.own.Nodes.{RuleReady};
-ghost use Rattle.saying.specs.Read.{bare as bare_rule, chain_of, rule_of};
+ghost use Rattle.saying.specs.Read.{bare as bare_rule, blank as blank_slots, chain_of, rule_of};
+ghost use Rattle.stated.specs.Stated.{item_of, role_use_of};
 
 use crate::Parsed;
+use crate::expressions::read_expr;
 use field::RuleWord;
-use packed::Packed;
-use rule::{Head, Rule};
-use store::Counts;
+use field::known::{Fields, Known};
+use rule::{Head, Node, RoleUse, Rule, Slot};
+use stated::numbers;
+use store::Item;
+
+// Places without nodes.
+fn blank() -> [Slot; Rule::NODES]
+    ensures { result ≡ blank_slots }
+{
+    [Slot { node: Node::Top }; Rule::NODES]
+}
 
 // A rule without expressions.
 pub fn bare(head: Head) -> Rule
@@ -18,223 +27,128 @@ pub fn bare(head: Head) -> Rule
     Rule {
         head,
         len: 0,
-        nodes: crate::places::blank(),
+        nodes: blank(),
     }
-}
-
-// How many fields there are from the one with the number `from` on.
-fn count_from(ends: &[u16], from: usize) -> usize
-    ensures { result ≡ length ends.now - from }
-{
-    if from < ends.len() {
-        return ends.len() - from;
-    }
-    0
 }
 
 // The roles of a chain.
-fn chain(
-    sheet: &[u8],
-    names: &[u32],
-    counts: Counts,
-    line: &[u8],
-    ends: &[u16],
-    from: usize,
-) -> Head
-    requires { Tidy sheet.now (table_of names.now counts) × Looked line.now ends.now × (from ≤ 2) × RuleReady RuleWord.Chain (drop from (fields line.now)) }
-    ensures { result ≡ chain_of (names_of sheet.now (table_of names.now counts)) (drop from (fields line.now)) }
+fn chain(known: &Known, fields: &Fields, from: usize) -> Head
+    requires { (from ≤ 2) × RuleReady RuleWord.Chain (drop from (fields_in fields.now)) }
+    ensures { result ≡ chain_of (names_in known.now) (drop from (fields_in fields.now)) }
 {
-    let k = count_from(ends, from) - 1;
-    let a = stated::numbers::role_use(sheet, names, counts, line, ends, from);
-    let b = stated::numbers::role_use(sheet, names, counts, line, ends, from + 1);
-    let c = stated::numbers::role_use(sheet, names, counts, line, ends, from + 2);
-    let d = stated::numbers::role_use(sheet, names, counts, line, ends, from + 3);
-    let e = stated::numbers::role_use(sheet, names, counts, line, ends, from + k);
+    let k = fields.ends.len().saturating_sub(from) - 1;
+    let a = numbers::role_use(known, fields, from);
+    let b = numbers::role_use(known, fields, from + 1);
+    let c = numbers::role_use(known, fields, from + 2);
+    let d = numbers::role_use(known, fields, from + 3);
+    let e = numbers::role_use(known, fields, from + k);
     Head::Chain(k, a, b, c, d, e)
 }
 
-// The head of the rule that a role is below another.
-fn role_sub(
-    sheet: &[u8],
-    names: &[u32],
-    counts: Counts,
-    line: &[u8],
-    ends: &[u16],
-    from: usize,
-) -> Head
-    requires { Tidy sheet.now (table_of names.now counts) × Looked line.now ends.now × (from ≤ 2) }
-    ensures { result ≡ (rule_of (names_of sheet.now (table_of names.now counts)) RuleWord.RoleSub (drop from (fields line.now))).head }
+// The roles of two fields.
+fn roles(known: &Known, fields: &Fields, from: usize) -> (RoleUse, RoleUse)
+    requires { from ≤ 2 }
+    ensures first { result.0 ≡ role_use_of (names_in known.now) (field_of 0 (drop from (fields_in fields.now))) }
+    ensures second { result.1 ≡ role_use_of (names_in known.now) (field_of 1 (drop from (fields_in fields.now))) }
 {
-    let a = stated::numbers::role_use(sheet, names, counts, line, ends, from);
-    let b = stated::numbers::role_use(sheet, names, counts, line, ends, from + 1);
-    Head::RoleSub(a, b)
+    let a = numbers::role_use(known, fields, from);
+    let b = numbers::role_use(known, fields, from + 1);
+    (a, b)
 }
 
-// The head of the rule that two roles never link the same two items.
-fn dis(sheet: &[u8], names: &[u32], counts: Counts, line: &[u8], ends: &[u16], from: usize) -> Head
-    requires { Tidy sheet.now (table_of names.now counts) × Looked line.now ends.now × (from ≤ 2) }
-    ensures { result ≡ (rule_of (names_of sheet.now (table_of names.now counts)) RuleWord.Dis (drop from (fields line.now))).head }
+// The items of two fields.
+fn items(known: &Known, fields: &Fields, from: usize) -> (Item, Item)
+    requires { from ≤ 3 }
+    ensures first { result.0 ≡ item_of (names_in known.now) (field_of 0 (drop from (fields_in fields.now))) }
+    ensures second { result.1 ≡ item_of (names_in known.now) (field_of 1 (drop from (fields_in fields.now))) }
 {
-    let a = stated::numbers::role_use(sheet, names, counts, line, ends, from);
-    let b = stated::numbers::role_use(sheet, names, counts, line, ends, from + 1);
-    Head::Dis(a, b)
+    let a = numbers::item(known, fields, from);
+    let b = numbers::item(known, fields, from + 1);
+    (a, b)
 }
 
-// The head of the rule that a role links two items.
-fn rel(sheet: &[u8], names: &[u32], counts: Counts, line: &[u8], ends: &[u16], from: usize) -> Head
-    requires { Tidy sheet.now (table_of names.now counts) × Looked line.now ends.now × (from ≤ 2) }
-    ensures { result ≡ (rule_of (names_of sheet.now (table_of names.now counts)) RuleWord.Rel (drop from (fields line.now))).head }
+// The role and the items of three fields.
+fn link(known: &Known, fields: &Fields, from: usize) -> (RoleUse, Item, Item)
+    requires { from ≤ 2 }
+    ensures role { result.0 ≡ role_use_of (names_in known.now) (field_of 0 (drop from (fields_in fields.now))) }
+    ensures first { result.1 ≡ item_of (names_in known.now) (field_of 1 (drop from (fields_in fields.now))) }
+    ensures second { result.2 ≡ item_of (names_in known.now) (field_of 2 (drop from (fields_in fields.now))) }
 {
-    let u = stated::numbers::role_use(sheet, names, counts, line, ends, from);
-    let a = stated::numbers::item(sheet, names, counts, line, ends, from + 1);
-    let b = stated::numbers::item(sheet, names, counts, line, ends, from + 2);
-    Head::Rel(u, a, b)
-}
-
-// The head of the rule that a role does not link two items.
-fn no_rel(
-    sheet: &[u8],
-    names: &[u32],
-    counts: Counts,
-    line: &[u8],
-    ends: &[u16],
-    from: usize,
-) -> Head
-    requires { Tidy sheet.now (table_of names.now counts) × Looked line.now ends.now × (from ≤ 2) }
-    ensures { result ≡ (rule_of (names_of sheet.now (table_of names.now counts)) RuleWord.NoRel (drop from (fields line.now))).head }
-{
-    let u = stated::numbers::role_use(sheet, names, counts, line, ends, from);
-    let a = stated::numbers::item(sheet, names, counts, line, ends, from + 1);
-    let b = stated::numbers::item(sheet, names, counts, line, ends, from + 2);
-    Head::NoRel(u, a, b)
-}
-
-// The head of the rule that two items are the same.
-fn same(sheet: &[u8], names: &[u32], counts: Counts, line: &[u8], ends: &[u16], from: usize) -> Head
-    requires { Tidy sheet.now (table_of names.now counts) × Looked line.now ends.now × (from ≤ 2) }
-    ensures { result ≡ (rule_of (names_of sheet.now (table_of names.now counts)) RuleWord.Same (drop from (fields line.now))).head }
-{
-    let a = stated::numbers::item(sheet, names, counts, line, ends, from);
-    let b = stated::numbers::item(sheet, names, counts, line, ends, from + 1);
-    Head::Same(a, b)
-}
-
-// The head of the rule that two items differ.
-fn differ(
-    sheet: &[u8],
-    names: &[u32],
-    counts: Counts,
-    line: &[u8],
-    ends: &[u16],
-    from: usize,
-) -> Head
-    requires { Tidy sheet.now (table_of names.now counts) × Looked line.now ends.now × (from ≤ 2) }
-    ensures { result ≡ (rule_of (names_of sheet.now (table_of names.now counts)) RuleWord.Differ (drop from (fields line.now))).head }
-{
-    let a = stated::numbers::item(sheet, names, counts, line, ends, from);
-    let b = stated::numbers::item(sheet, names, counts, line, ends, from + 1);
-    Head::Differ(a, b)
+    let u = numbers::role_use(known, fields, from);
+    let a = numbers::item(known, fields, from + 1);
+    let b = numbers::item(known, fields, from + 2);
+    (u, a, b)
 }
 
 // The rule that one expression is below another.
-fn sub(sheet: &[u8], names: &[u32], counts: Counts, line: &[u8], ends: &[u16], from: usize) -> Rule
-    requires { Tidy sheet.now (table_of names.now counts) × Looked line.now ends.now × (from ≤ 2) × RuleReady RuleWord.Sub (drop from (fields line.now)) }
-    ensures { result ≡ rule_of (names_of sheet.now (table_of names.now counts)) RuleWord.Sub (drop from (fields line.now)) }
+fn sub(known: &Known, fields: &Fields, from: usize) -> Rule
+    requires { (from ≤ 2) × RuleReady RuleWord.Sub (drop from (fields_in fields.now)) }
+    ensures { result ≡ rule_of (names_in known.now) RuleWord.Sub (drop from (fields_in fields.now)) }
 {
-    let mut numbers = [0; Packed::ROOM];
+    let mut nodes = blank();
     let none = Parsed { len: 0, at: from };
-    let left = count_from(ends, from);
-    let first = crate::expressions::read_expr(
-        sheet,
-        names,
-        counts,
-        line,
-        ends,
-        &mut numbers,
-        none,
-        left,
-    );
-    let rest = count_from(ends, first.at);
-    let both = crate::expressions::read_expr(
-        sheet,
-        names,
-        counts,
-        line,
-        ends,
-        &mut numbers,
-        first,
-        rest,
-    );
+    let left = fields.ends.len().saturating_sub(from);
+    let first = read_expr(known, fields, &mut nodes, none, left);
+    let rest = fields.ends.len().saturating_sub(first.at);
+    let both = read_expr(known, fields, &mut nodes, first, rest);
     Rule {
         head: Head::Sub(0, first.len),
         len: both.len,
-        nodes: crate::places::unpack(&numbers, both.len),
+        nodes,
     }
 }
 
 // The rule that an expression holds of an item.
-fn in_rule(
-    sheet: &[u8],
-    names: &[u32],
-    counts: Counts,
-    line: &[u8],
-    ends: &[u16],
-    from: usize,
-) -> Rule
-    requires { Tidy sheet.now (table_of names.now counts) × Looked line.now ends.now × (from ≤ 2) × RuleReady RuleWord.In (drop from (fields line.now)) }
-    ensures { result ≡ rule_of (names_of sheet.now (table_of names.now counts)) RuleWord.In (drop from (fields line.now)) }
+fn in_rule(known: &Known, fields: &Fields, from: usize) -> Rule
+    requires { (from ≤ 2) × RuleReady RuleWord.In (drop from (fields_in fields.now)) }
+    ensures { result ≡ rule_of (names_in known.now) RuleWord.In (drop from (fields_in fields.now)) }
 {
-    let mut numbers = [0; Packed::ROOM];
+    let mut nodes = blank();
     let none = Parsed { len: 0, at: from };
-    let left = count_from(ends, from);
-    let first = crate::expressions::read_expr(
-        sheet,
-        names,
-        counts,
-        line,
-        ends,
-        &mut numbers,
-        none,
-        left,
-    );
-    let item = stated::numbers::item(sheet, names, counts, line, ends, first.at);
+    let left = fields.ends.len().saturating_sub(from);
+    let first = read_expr(known, fields, &mut nodes, none, left);
+    let item = numbers::item(known, fields, first.at);
     Rule {
         head: Head::In(0, item),
         len: first.len,
-        nodes: crate::places::unpack(&numbers, first.len),
+        nodes,
     }
 }
 
 // The rule that the fields of a line say, from the one with the number `from` on.
-pub fn rule_of(
-    sheet: &[u8],
-    names: &[u32],
-    counts: Counts,
-    line: &[u8],
-    ends: &[u16],
-    from: usize,
-    w: RuleWord,
-) -> Rule
-    requires { Tidy sheet.now (table_of names.now counts) × Looked line.now ends.now × (from ≤ 2) × RuleReady w (drop from (fields line.now)) }
-    ensures { result ≡ rule_of (names_of sheet.now (table_of names.now counts)) w (drop from (fields line.now)) }
+pub fn rule_of(known: &Known, fields: &Fields, from: usize, w: RuleWord) -> Rule
+    requires { (from ≤ 2) × RuleReady w (drop from (fields_in fields.now)) }
+    ensures { result ≡ rule_of (names_in known.now) w (drop from (fields_in fields.now)) }
 {
     match w {
-        RuleWord::Sub => sub(sheet, names, counts, line, ends, from),
-        RuleWord::RoleSub => bare(role_sub(sheet, names, counts, line, ends, from)),
-        RuleWord::Chain => bare(chain(sheet, names, counts, line, ends, from)),
-        RuleWord::Ref => {
-            let u = stated::numbers::role_use(sheet, names, counts, line, ends, from);
-            bare(Head::Ref(u))
+        RuleWord::Sub => sub(known, fields, from),
+        RuleWord::RoleSub => {
+            let (a, b) = roles(known, fields, from);
+            bare(Head::RoleSub(a, b))
         }
-        RuleWord::Irr => {
-            let u = stated::numbers::role_use(sheet, names, counts, line, ends, from);
-            bare(Head::Irr(u))
+        RuleWord::Chain => bare(chain(known, fields, from)),
+        RuleWord::Ref => bare(Head::Ref(numbers::role_use(known, fields, from))),
+        RuleWord::Irr => bare(Head::Irr(numbers::role_use(known, fields, from))),
+        RuleWord::Dis => {
+            let (a, b) = roles(known, fields, from);
+            bare(Head::Dis(a, b))
         }
-        RuleWord::Dis => bare(dis(sheet, names, counts, line, ends, from)),
-        RuleWord::In => in_rule(sheet, names, counts, line, ends, from),
-        RuleWord::Rel => bare(rel(sheet, names, counts, line, ends, from)),
-        RuleWord::NoRel => bare(no_rel(sheet, names, counts, line, ends, from)),
-        RuleWord::Same => bare(same(sheet, names, counts, line, ends, from)),
-        RuleWord::Differ => bare(differ(sheet, names, counts, line, ends, from)),
+        RuleWord::In => in_rule(known, fields, from),
+        RuleWord::Rel => {
+            let (u, a, b) = link(known, fields, from);
+            bare(Head::Rel(u, a, b))
+        }
+        RuleWord::NoRel => {
+            let (u, a, b) = link(known, fields, from);
+            bare(Head::NoRel(u, a, b))
+        }
+        RuleWord::Same => {
+            let (a, b) = items(known, fields, from);
+            bare(Head::Same(a, b))
+        }
+        RuleWord::Differ => {
+            let (a, b) = items(known, fields, from);
+            bare(Head::Differ(a, b))
+        }
     }
 }

@@ -1,84 +1,51 @@
 ghost use Rattle.std.specs.Prelude.{◌≡◌};
-ghost use Rattle.text.specs.Split.{fields};
 ghost use Rattle.field.specs.Words.{at as field_of};
-ghost use Rattle.field.specs.own.Line.{Looked};
-ghost use Rattle.field.specs.own.Table.{Tidy, names_of, table_of};
+ghost use Rattle.field.specs.own.Known.{fields_in, names_in};
 ghost use Rattle.stated.specs.Stated.{concept_of, item_of, role_of, role_use_of};
 
+use field::known::{Fields, Known};
 use rule::RoleUse;
-use store::{Concept, Counts, Item, Role};
+use store::{Concept, Item, Role};
 
 // The field of a line with the number k, from 0; no bytes where there is none.
-pub fn nth<'a>(line: &'a [u8], ends: &[u16], k: usize) -> &'a [u8]
-    requires { Looked line.now ends.now }
-    ensures { result.now ≡ field_of k (fields line.now) }
+pub fn nth<'a>(fields: &Fields<'a>, k: usize) -> &'a [u8]
+    ensures { result.now ≡ field_of k (fields_in fields.now) }
 {
-    if k < ends.len() {
-        reader::scan::field(line, ends, k)
+    if k < fields.ends.len() {
+        reader::scan::field(fields.line, fields.ends, k)
     } else {
-        &line[..0]
+        &fields.line[..0]
     }
 }
 
 // The concept that the field with the number k names.
-pub fn concept(
-    sheet: &[u8],
-    names: &[u32],
-    counts: Counts,
-    line: &[u8],
-    ends: &[u16],
-    k: usize,
-) -> Concept
-    requires { Tidy sheet.now (table_of names.now counts) × Looked line.now ends.now }
-    ensures { result ≡ concept_of (names_of sheet.now (table_of names.now counts)) (field_of k (fields line.now)) }
+pub fn concept(known: &Known, fields: &Fields, k: usize) -> Concept
+    ensures { result ≡ concept_of (names_in known.now) (field_of k (fields_in fields.now)) }
 {
-    Concept(field::names::concept(sheet, names, counts, nth(line, ends, k)))
+    Concept(field::names::concept(known.sheet, known.numbers, known.counts, nth(fields, k)))
 }
 
 // The role that the field with the number k names.
-pub fn role(
-    sheet: &[u8],
-    names: &[u32],
-    counts: Counts,
-    line: &[u8],
-    ends: &[u16],
-    k: usize,
-) -> Role
-    requires { Tidy sheet.now (table_of names.now counts) × Looked line.now ends.now }
-    ensures { result ≡ role_of (names_of sheet.now (table_of names.now counts)) (field_of k (fields line.now)) }
+pub fn role(known: &Known, fields: &Fields, k: usize) -> Role
+    ensures { result ≡ role_of (names_in known.now) (field_of k (fields_in fields.now)) }
 {
-    Role(field::names::role(sheet, names, counts, nth(line, ends, k)))
+    Role(field::names::role(known.sheet, known.numbers, known.counts, nth(fields, k)))
 }
 
 // The item that the field with the number k names.
-pub fn item(
-    sheet: &[u8],
-    names: &[u32],
-    counts: Counts,
-    line: &[u8],
-    ends: &[u16],
-    k: usize,
-) -> Item
-    requires { Tidy sheet.now (table_of names.now counts) × Looked line.now ends.now }
-    ensures { result ≡ item_of (names_of sheet.now (table_of names.now counts)) (field_of k (fields line.now)) }
+pub fn item(known: &Known, fields: &Fields, k: usize) -> Item
+    ensures { result ≡ item_of (names_in known.now) (field_of k (fields_in fields.now)) }
 {
-    Item(field::names::item(sheet, names, counts, nth(line, ends, k)))
+    Item(field::names::item(known.sheet, known.numbers, known.counts, nth(fields, k)))
 }
 
 // The role or inverse that the field with the number k names.
-pub fn role_use(
-    sheet: &[u8],
-    names: &[u32],
-    counts: Counts,
-    line: &[u8],
-    ends: &[u16],
-    k: usize,
-) -> RoleUse
-    requires { Tidy sheet.now (table_of names.now counts) × Looked line.now ends.now }
-    ensures { result ≡ role_use_of (names_of sheet.now (table_of names.now counts)) (field_of k (fields line.now)) }
+pub fn role_use(known: &Known, fields: &Fields, k: usize) -> RoleUse
+    ensures { result ≡ role_use_of (names_in known.now) (field_of k (fields_in fields.now)) }
 {
-    let f = nth(line, ends, k);
+    let f = nth(fields, k);
     let inverse = field::names::inverted(f);
-    let role = Role(field::names::role(sheet, names, counts, field::names::plain(f)));
+    let name = field::names::plain(f);
+    let role = Role(field::names::role(known.sheet, known.numbers, known.counts, name));
     RoleUse { role, inverse }
 }

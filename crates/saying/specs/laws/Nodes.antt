@@ -1,62 +1,44 @@
 -- Laws of writing an expression's nodes word by word. Assumes nothing.
-use Rattle.std.specs.Prelude.{◌≡◌, ℕ, zero, suc, ◌+◌, ◌*◌, ◌<◌, drop, set}
+use Rattle.std.specs.Prelude.{◌≡◌, map, ℕ, zero, suc, ◌+◌, ◌<◌, drop, set}
 use Rattle.std.proofs.Math.Path.{refl}
 use Rattle.std.proofs.Common.{sym, ◌∙◌, ap, add-zero, set-set}
 use mathlib.Core.List.{List, [], ◌∷◌, ◌++◌, append_assoc}
 use Rattle.std.proofs.Math.Numerals.{add-one}
 use native.Mathlib.Omega.{arith}
 use Rattle.std.proofs.Math.ListN.{length, length-append}
-use Rattle.std.proofs.Math.Seq.{length-sets}
-use Rattle.std.proofs.lemmas.List.{set_comm}
+use Rattle.std.proofs.lemmas.List.{length-map, map-append, set_comm}
 use Rattle.std.proofs.lemmas.List.Edits.{sets}
+use Rattle.logic.specs.laws.Sets.{sets-append}
 use Rattle.rule.specs.declared.Node.{Node}
 use Rattle.rule.specs.declared.Node.TheVariants as node
+use Rattle.rule.specs.declared.Slot.{Slot}
 use Rattle.rule.specs.Expr.{Expr}
 use Rattle.rule.specs.Expr.Expr.{both, many, name, neg, one, own, top}
 use Rattle.field.specs.declared.Operator.{Operator}
 use Rattle.field.specs.declared.Operator.TheVariants as operator
 use Rattle.field.specs.Names.{Names, count_of}
 use Rattle.saying.specs.own.Nodes.{Joined, PutAll, children_of, fill_and, head_fields, head_nodes}
-use Rattle.packed.specs.own.Packed.{pack_width, packs}
-use Rattle.packed.specs.laws.Packed.{packs-both}
-use Rattle.saying.specs.Read.{Read, by_word, nodes_at, size}
+use Rattle.saying.specs.Read.{Read, by_word, nodes_at, size, slot}
 use Rattle.field.specs.Words.{at, Field}
 
 -- ---- lists
 
 -- a store before a run of stores
-set-sets : (l : List ℕ) (i k v : ℕ) (vs : List ℕ) → i < k → set (sets l k vs) i v ≡ sets (set l i v) k vs
+set-sets : (l : List Slot) (i k : ℕ) (v : Slot) (vs : List Slot) → i < k → set (sets l k vs) i v ≡ sets (set l i v) k vs
 set-sets l i k v [] h = refl
 set-sets l i k v (a ∷ vs) h = set-sets (set l k a) i (suc k) v vs (omega arith) ∙ rw (set_comm l k i a v (λ q. omega arith))
 
 -- a store among a run of stores
-sets-set : (l : List ℕ) (i j v : ℕ) (vs : List ℕ) → j < length vs → set (sets l i vs) (i + j) v ≡ sets l i (set vs j v)
+sets-set : (l : List Slot) (i j : ℕ) (v : Slot) (vs : List Slot) → j < length vs → set (sets l i vs) (i + j) v ≡ sets l i (set vs j v)
 sets-set l i j v [] h = absurd (omega arith)
 sets-set l i zero v (a ∷ vs) h = rw add-zero (set-sets (set l i a) i (suc i) v vs (omega arith) ∙ rw (set-set l i a v))
 sets-set l i (suc j) v (a ∷ vs) h = let z : i + suc j ≡ suc i + j = omega arith in rw z (sets-set (set l i a) (suc i) j v vs (omega arith))
 
 -- ---- nodes in the room
 
-module _ {room : List ℕ} {len : ℕ} where
-  pub put-none : {exit : List ℕ} → exit ≡ room → PutAll room len [] exit len
-  unfolding packs
-  put-none e = record { here = e; count = omega arith }
-
-  module _ {xs : List Node} {exit : List ℕ} {r : ℕ} where
-    pub put-long : PutAll room len xs exit r → length exit ≡ length room
-    put-long p = ap length p.here ∙ length-sets room (pack_width * len) (packs xs)
-
-    -- the same nodes, and the same room
-    pub put_as : {ys : List Node} → xs ≡ ys → PutAll room len xs exit r → PutAll room len ys exit r
-    put_as e p = rw e at p
-
-    pub put-after : {new : List ℕ} → room ≡ new → PutAll room len xs exit r → PutAll new len xs exit r
-    put-after e p = rw e at p
-
-    -- more nodes after them
-    pub put-more : {ys : List Node} {last : List ℕ} {s : ℕ} → PutAll room len xs exit r → PutAll exit r ys last s → PutAll room len (xs ++ ys) last s
-    put-more {ys} {last} {s} p q =
-        record { here = q.here ∙ rw p.here (packs-both room len r xs ys p.count); count = omega (arith, p.count, q.count, length-append xs ys) }
+-- two runs of nodes, one after the other
+pub slots-both : (room : List Slot) (i k : ℕ) (xs ys : List Node) → k ≡ i + length xs → sets (sets room i (map slot xs)) k (map slot ys) ≡ sets room i (map slot (xs ++ ys))
+slots-both room i k xs ys e = rw (e, map-append slot xs ys, sets-append room i (map slot xs) (map slot ys), length-map xs slot)
 
 -- ---- what a word writes
 
@@ -143,32 +125,29 @@ module _ (n : Names) (more : List Field → Read) (i : ℕ) (fs : List Field) wh
   front operator.Bot c = []
   front operator.None c = []
 
-  module _ (arr : List ℕ) where
+  module _ (arr : List Slot) where
     -- the `and` of the first node, and that of the second, gets its second child
-    and_first : (a b : ℕ) (xs : List Node) → fill_and (sets arr (pack_width * i) (packs (node.And a 0 ∷ xs))) i b ≡ sets arr (pack_width * i) (packs (node.And a b ∷ xs))
-    unfolding packs
-    and_first a b xs = sets-set arr (pack_width * i) 2 b (packs (node.And a 0 ∷ xs)) (omega arith)
+    and_first : (b : ℕ) (xs : List Node) → fill_and (sets arr i (map slot (node.And (i + 1) 0 ∷ xs))) i b ≡ sets arr i (map slot (node.And (i + 1) b ∷ xs))
+    and_first b xs = rw add-zero at (sets-set arr i 0 (slot (node.And (i + 1) b)) (map slot (node.And (i + 1) 0 ∷ xs)) (omega arith))
 
-    and_second : (x : Node) (a b : ℕ) (xs : List Node) → fill_and (sets arr (pack_width * i) (packs (x ∷ node.And a 0 ∷ xs))) (i + 1) b ≡ sets arr (pack_width * i) (packs (x ∷ node.And a b ∷ xs))
-    unfolding packs
-    and_second x a b xs =
-        let z : pack_width * (i + 1) + 2 ≡ pack_width * i + 6 = omega arith in
-        rw z (sets-set arr (pack_width * i) 6 b (packs (x ∷ node.And a 0 ∷ xs)) (omega arith))
+    and_second : (x : Node) (b : ℕ) (xs : List Node) → fill_and (sets arr i (map slot (x ∷ node.And (i + 2) 0 ∷ xs))) (i + 1) b ≡ sets arr i (map slot (x ∷ node.And (i + 2) b ∷ xs))
+    and_second x b xs =
+        let z : i + 1 + 1 ≡ i + 2 = omega arith in
+        rw z (sets-set arr i 1 (slot (node.And (i + 2) b)) (map slot (x ∷ node.And (i + 2) 0 ∷ xs)) (omega arith))
 
     -- the nodes of the first child after the word's own, then the word's `and` filled in
-    pub join-nodes : (o : Operator) (c : Expr) (nodes : List ℕ) (len : ℕ) (exit : List ℕ) (r : ℕ) → children_of o ≡ 2
-        → nodes ≡ sets arr (pack_width * i) (packs (head_nodes n o i fs ++ nodes_at (i + length (head_nodes n o i fs)) c)) → len ≡ i + length (head_nodes n o i fs) + size c → Joined o nodes i len exit r
+    pub join-nodes : (o : Operator) (c : Expr) (nodes : List Slot) (len : ℕ) (exit : List Slot) (r : ℕ) → children_of o ≡ 2
+        → nodes ≡ sets arr i (map slot (head_nodes n o i fs ++ nodes_at (i + length (head_nodes n o i fs)) c)) → len ≡ i + length (head_nodes n o i fs) + size c → Joined o nodes i len exit r
         → PutAll arr i (front o c) exit r
-    unfolding packs
     join-nodes operator.And c nodes len exit r e h l j =
-        record { here = j.here ∙ rw (h, l) (and_first (i + 1) (i + 1 + size c) (nodes_at (i + 1) c)); count = omega (arith, j.count, l, nodes-length (i + 1) c) }
+        record { here = j.here ∙ rw (h, l) (and_first (i + 1 + size c) (nodes_at (i + 1) c)); count = omega (arith, j.count, l, nodes-length (i + 1) c) }
     join-nodes operator.Or c nodes len exit r e h l j =
         let xs : List Node = node.Not (i + 1) ∷ node.And (i + 2) (i + 3 + size c) ∷ node.Not (i + 3) ∷ nodes_at (i + 3) c in
         let k : i + 3 + size c ≡ i + length xs = omega (arith, nodes-length (i + 3) c) in
         record {
           here =
-              j.here ∙ rw (h, l) (rw (and_second (node.Not (i + 1)) (i + 2) (i + 3 + size c) (node.Not (i + 3) ∷ nodes_at (i + 3) c))
-              (packs-both arr i (i + 3 + size c) xs (node.Not (i + 3 + size c + 1) ∷ []) k));
+              j.here ∙ rw (h, l) (rw (and_second (node.Not (i + 1)) (i + 3 + size c) (node.Not (i + 3) ∷ nodes_at (i + 3) c))
+              (slots-both arr i (i + 3 + size c) xs (node.Not (i + 3 + size c + 1) ∷ []) k));
           count = omega (arith, j.count, l, k, length-append (nodes_at (i + 3) c) (node.Not (i + 3 + size c + 1) ∷ []));
         }
     join-nodes operator.Not c nodes len exit r e h l j = absurd (omega arith)

@@ -1,9 +1,9 @@
 -- Laws of reading one expression into nodes, word by word. Assumes nothing.
-use Rattle.std.specs.Prelude.{◌≡◌, refl, true, List, [], ◌∷◌, ◌++◌, ℕ, zero, suc, ◌+◌, ◌-◌, ◌*◌, ◌≤◌, ◌<◌, drop, length}
-use Rattle.std.proofs.Common.{sym, ◌∙◌, ap, true≢false, arith, length-append, length-drop, drop-drop}
-use Rattle.std.proofs.Math.Seq.{length-sets}
+use Rattle.std.specs.Prelude.{◌≡◌, refl, true, List, [], ◌∷◌, ◌++◌, map, ℕ, zero, suc, ◌+◌, ◌-◌, ◌≤◌, ◌<◌, drop, length}
+use Rattle.std.proofs.Common.{sym, ◌∙◌, true≢false, arith, length-append, length-drop, drop-drop}
 use Rattle.std.proofs.lemmas.List.Edits.{sets}
 use Rattle.rule.specs.declared.Node.TheVariants as node
+use Rattle.rule.specs.declared.Slot.{Slot}
 use Rattle.rule.specs.Form.{node_limit}
 use Rattle.rule.specs.Expr.{Expr}
 use Rattle.rule.specs.Expr.Expr.{both, many, name, neg, one, own, top}
@@ -15,11 +15,9 @@ use Rattle.saying.specs.declared.Parsed.{Parsed}
 use Rattle.field.specs.Due.{fits, wanted}
 use Rattle.field.specs.Names.{Names, nodes_in, nodes_of}
 use Rattle.saying.specs.own.Nodes.{Joined, PutAll, ReadsOne, Ready, children_of, head_fields, head_nodes}
-use Rattle.saying.specs.Read.{Read, by_word, nodes_at, read, size}
+use Rattle.saying.specs.Read.{Read, by_word, nodes_at, read, size, slot}
 use Rattle.field.specs.Words.{at, Field, operator_of}
-use Rattle.packed.specs.own.Packed.{pack_width, packs}
-use Rattle.packed.specs.laws.Packed.{packs-both}
-use Rattle.saying.specs.laws.Nodes.{drop-later, front, join-nodes, leaf-nodes, nodes-length, one-nodes, put-long, two-nodes}
+use Rattle.saying.specs.laws.Nodes.{drop-later, front, join-nodes, leaf-nodes, nodes-length, one-nodes, slots-both, two-nodes}
 use Rattle.saying.specs.laws.Read.{Begun, Reader, drop-two, plain-field, read_right}
 
 -- the first word of an expression, and what it wants
@@ -178,7 +176,7 @@ module _ (n : Names) (all : List Field) (left : ℕ) (p : Parsed) (o : Operator)
   word_room = omega (arith, wants.1, rd.room)
 
   -- the word is written and passed
-  module _ (room nodes : List ℕ) (q : Parsed) (w : PutAll room p.len (head_nodes n o p.len fs) nodes q.len) (past : q.at ≡ p.at + head_fields o) where
+  module _ (room nodes : List Slot) (q : Parsed) (w : PutAll room p.len (head_nodes n o p.len fs) nodes q.len) (past : q.at ≡ p.at + head_fields o) where
     passed-word : drop q.at all ≡ drop (head_fields o) fs
     passed-word = rw (past, drop-drop (head_fields o) p.at all)
 
@@ -204,13 +202,13 @@ module _ (n : Names) (all : List Field) (left : ℕ) (p : Parsed) (o : Operator)
             (record { dues = due.Expr ∷ rd.dues; fit = f; room = omega (arith, w.count, head_few n o p.len fs, wants.1, m, rd.room); enough = omega (arith, wants.2, rd.enough) })
 
     -- the first child is read
-    module _ (exit : List ℕ) (r : Parsed) (c : ReadsOne n all (left - 1) q nodes exit r) where
+    module _ (exit : List Slot) (r : Parsed) (c : ReadsOne n all (left - 1) q nodes exit r) where
       -- it is the only one
       pub word-one : children_of o ≡ 1 → ReadsOne n all left p room exit r
       word-one e =
           let l = one-nodes n more p.len fs o e in
           record {
-            nodes = rw by-word (c.nodes ∙ rw (w.here, w.count, passed-word, packs-both room p.len _ (head_nodes n o p.len fs) _ refl, ← l.0));
+            nodes = rw by-word (c.nodes ∙ rw (w.here, w.count, passed-word, slots-both room p.len _ (head_nodes n o p.len fs) _ refl, ← l.0));
             len = rw by-word (c.len ∙ rw (w.count, passed-word) (omega (arith, l.1)));
             rest = rw by-word (c.rest ∙ rw (passed-word, ← l.2));
           }
@@ -233,8 +231,8 @@ module _ (n : Names) (all : List Field) (left : ℕ) (p : Parsed) (o : Operator)
         unfolding Reader
         begins = read_right n (left - 1) (due.Expr ∷ rd.dues) (drop 1 fs) (omega (arith, wants.2, rd.enough)) two-fit
 
-        first-nodes : exit ≡ sets room (pack_width * p.len) (packs (head_nodes n o p.len fs ++ nodes_at (p.len + length (head_nodes n o p.len fs)) first.expr))
-        first-nodes = c.nodes ∙ rw (w.here, w.count, passed, packs-both room p.len _ (head_nodes n o p.len fs) _ refl)
+        first-nodes : exit ≡ sets room p.len (map slot (head_nodes n o p.len fs ++ nodes_at (p.len + length (head_nodes n o p.len fs)) first.expr))
+        first-nodes = c.nodes ∙ rw (w.here, w.count, passed, slots-both room p.len _ (head_nodes n o p.len fs) _ refl)
 
         first-len : r.len ≡ p.len + length (head_nodes n o p.len fs) + size first.expr
         first-len = c.len ∙ rw (w.count, passed)
@@ -249,12 +247,9 @@ module _ (n : Names) (all : List Field) (left : ℕ) (p : Parsed) (o : Operator)
         pub join-ready : (p.len + 1 < node_limit) × (r.len < node_limit)
         join-ready = (omega (arith, spare, nodes-some o, size-some first.expr), omega (arith, spare, first-len, head_few n o p.len fs))
 
-        module _ (both : List ℕ) (s : Parsed) (j : Joined o exit p.len r.len both s.len) (same : s.at ≡ r.at) where
+        module _ (both : List Slot) (s : Parsed) (j : Joined o exit p.len r.len both s.len) (same : s.at ≡ r.at) where
           joined : PutAll room p.len (front n more p.len fs o first.expr) both s.len
           joined = join-nodes n more p.len fs room o first.expr exit r.len both s.len e first-nodes first-len j
-
-          pub joined-long : length both ≡ length room
-          joined-long = put-long joined
 
           second-rest : drop s.at all ≡ first.rest
           second-rest = rw same first_rest
@@ -269,11 +264,11 @@ module _ (n : Names) (all : List Field) (left : ℕ) (p : Parsed) (o : Operator)
                 enough = omega (arith, begins.less, wants.2, rd.enough);
               })
 
-          pub word_two : (last : List ℕ) (v : Parsed) → ReadsOne n all (left - 1) s both last v → ReadsOne n all left p room last v
+          pub word_two : (last : List Slot) (v : Parsed) → ReadsOne n all (left - 1) s both last v → ReadsOne n all left p room last v
           word_two last v d =
               let l = two-nodes n more p.len fs o e in
               record {
-                nodes = rw by-word (d.nodes ∙ rw (joined.here, joined.count, second-rest, packs-both room p.len _ (front n more p.len fs o first.expr) _ refl, ← l.0));
+                nodes = rw by-word (d.nodes ∙ rw (joined.here, joined.count, second-rest, slots-both room p.len _ (front n more p.len fs o first.expr) _ refl, ← l.0));
                 len = rw by-word (d.len ∙ rw (joined.count, second-rest) (omega (arith, l.1)));
                 rest = rw by-word (d.rest ∙ rw (second-rest, ← l.2));
               }
@@ -284,10 +279,6 @@ ready-some fs len left rd z = omega (arith, (first_word rd.dues fs rd.fit).2, rd
 
 pub ready-inside : (fs : List Field) (k : ℕ) {len left : ℕ} → Ready (drop k fs) len left → k < length fs
 ready-inside fs k rd = omega (arith, (first_word rd.dues (drop k fs) rd.fit).2, length-drop k fs)
-
--- reading leaves the room as long as it was
-pub reads-long : {n : Names} {fs : List Field} {left : ℕ} {p : Parsed} {room exit : List ℕ} {r : Parsed} → ReadsOne n fs left p room exit r → length exit ≡ length room
-reads-long {n} {fs} {left} {p} {room} d = ap length d.nodes ∙ length-sets room (pack_width * p.len) (packs (nodes_at p.len (read left n (drop p.at fs)).expr))
 
 -- neither none nor one: two
 pub two-else : (o : Operator) → (children_of o ≡ 0 → ⊥) → (children_of o ≡ 1 → ⊥) → children_of o ≡ 2

@@ -1,13 +1,11 @@
 -- Laws of reading rules from their fields. Assumes nothing.
 use Rattle.std.specs.Prelude.{◌≡◌, ℕ, ◌+◌, ◌-◌, ◌≤◌, drop, length}
-use Rattle.std.proofs.Common.{sym, ◌∙◌, true≢false, arith, length-append}
+use Rattle.std.proofs.Common.{sym, ◌∙◌, true≢false, arith}
 use mathlib.Core.List.{List, [], ◌∷◌, ◌++◌}
-use Rattle.std.proofs.lemmas.List.Edits.{sets}
 use Rattle.rule.specs.declared.Head.TheVariants as head
 use Rattle.rule.specs.declared.Node.{Node}
 use Rattle.rule.specs.declared.RoleUse.{RoleUse}
 use Rattle.rule.specs.declared.Slot.{Slot}
-use Rattle.rule.specs.Form.{node_limit}
 use Rattle.store.specs.declared.Item.{Item}
 use Rattle.field.specs.declared.Due.TheVariants as due
 use Rattle.saying.specs.declared.Parsed.{Parsed}
@@ -15,13 +13,11 @@ use Rattle.field.specs.declared.RuleWord.TheVariants as rule
 use Rattle.field.specs.Due.{fits}
 use Rattle.field.specs.Names.{Names}
 use Rattle.saying.specs.own.Nodes.{ReadsOne, Ready, RuleReady}
-use Rattle.saying.specs.Read.{Read, chain_of, laid, nodes_at, read_expr, rule_of, size}
+use Rattle.saying.specs.Read.{Read, blank, chain_of, laid, nodes_at, read_expr, rule_of, size}
 use Rattle.stated.specs.Stated.{item_of, role_use_of}
 use Rattle.field.specs.Words.{at, Field}
 use Rattle.stated.specs.laws.Fields.{field-from, first-from}
-use Rattle.saying.specs.laws.Nodes.{nodes-length}
-use Rattle.packed.specs.own.Packed.{pack_limit, packs, unpacked}
-use Rattle.packed.specs.laws.Packed.{packs-both, unpacked-all}
+use Rattle.saying.specs.laws.Nodes.{nodes-length, slots-both}
 use Rattle.saying.specs.laws.Read.{Begun, Reader, read_right}
 
 -- a chain has a role
@@ -49,34 +45,17 @@ module _ (n : Names) (all : List Field) (from : ℕ) where
   abbrev first : Read
   first = read_expr n fs
 
-  pub in-first : RuleReady rule.In fs → (k : ℕ) → k ≡ length fs → Ready fs 0 k
-  in-first r k e = record { dues = due.Item ∷ []; fit = r.fit; room = omega (arith, r.room); enough = omega arith }
-
-  pub sub-first : RuleReady rule.Sub fs → (k : ℕ) → k ≡ length fs → Ready fs 0 k
-  sub-first r k e = record { dues = due.Expr ∷ []; fit = r.fit; room = omega (arith, r.room); enough = omega arith }
-
   -- the first expression is read
-  module _ (room nodes : List ℕ) (long : length room ≡ pack_limit) (p : Parsed) (k : ℕ) (count : k ≡ length fs) (c : ReadsOne n all k (start from) room nodes p) where
-    first_read : ReadsOne n all (length fs) (start from) room nodes p
+  module _ (nodes : List Slot) (p : Parsed) (k : ℕ) (count : k ≡ length fs) (c : ReadsOne n all k (start from) blank nodes p) where
+    first_read : ReadsOne n all (length fs) (start from) blank nodes p
     first_read = rw count at c
 
     first-len : p.len ≡ size first.expr
     first-len = omega (arith, first_read.len)
 
     -- of `in`: an expression and an item
-    module _ (r : RuleReady rule.In fs) where
-      begun-in : Begun (due.Item ∷ []) fs first.rest (size first.expr)
-      unfolding Reader
-      begun-in = read_right n (length fs) (due.Item ∷ []) fs (omega arith) r.fit
-
-      pub in-room : p.len ≤ node_limit
-      in-room = omega (arith, first-len, begun-in.nodes, r.room)
-
-      pub in-rule : (i : Item) (slots : List Slot) → i ≡ item_of n (at 0 (drop p.at all)) → slots ≡ laid (unpacked nodes p.len) → record { head = head.In 0 i; len = p.len; nodes = slots } ≡ rule_of n rule.In fs
-      in-rule i slots e f =
-          let l : p.len ≡ length (nodes_at 0 first.expr) = omega (arith, first-len, nodes-length 0 first.expr) in
-          let u : unpacked nodes p.len ≡ nodes_at 0 first.expr = rw (l, first_read.nodes) (unpacked-all room (nodes_at 0 first.expr) (omega (arith, l, in-room))) in
-          rw (f, u, e, first_read.rest, first-len)
+    pub in-rule : (i : Item) → i ≡ item_of n (at 0 (drop p.at all)) → record { head = head.In 0 i; len = p.len; nodes = nodes } ≡ rule_of n rule.In fs
+    in-rule i e = rw (first_read.nodes, e, first_read.rest, first-len)
 
     -- of `sub`: two expressions
     module _ (r : RuleReady rule.Sub fs) (j : ℕ) (rest : j ≡ length (drop p.at all)) where
@@ -87,14 +66,10 @@ module _ (n : Names) (all : List Field) (from : ℕ) where
       unfolding Reader
       begun_first = read_right n (length fs) (due.Expr ∷ []) fs (omega arith) r.fit
 
-      begun-second : Begun [] first.rest second.rest (size second.expr)
-      unfolding Reader
-      begun-second = read_right n (length first.rest) [] first.rest (omega arith) begun_first.fit
-
       pub sub-second : Ready (drop p.at all) p.len j
       sub-second = rw (rest, first_read.rest) (record { dues = []; fit = begun_first.fit; room = omega (arith, first-len, begun_first.nodes, r.room); enough = omega arith })
 
-      module _ (exit : List ℕ) (q : Parsed) (d : ReadsOne n all j p nodes exit q) where
+      module _ (exit : List Slot) (q : Parsed) (d : ReadsOne n all j p nodes exit q) where
         second-read : ReadsOne n all (length first.rest) p nodes exit q
         second-read = rw (rest, first_read.rest) at d
 
@@ -104,17 +79,10 @@ module _ (n : Names) (all : List Field) (from : ℕ) where
         abbrev both : List Node
         both = nodes_at 0 first.expr ++ nodes_at (size first.expr) second.expr
 
-        second-nodes : exit ≡ sets room 0 (packs both)
+        second-nodes : exit ≡ laid both
         second-nodes =
             let m : size first.expr ≡ 0 + length (nodes_at 0 first.expr) = omega (arith, nodes-length 0 first.expr) in
-            second-read.nodes ∙ rw (first_read.rest, first-len, first_read.nodes) (packs-both room 0 (size first.expr) (nodes_at 0 first.expr) (nodes_at (size first.expr) second.expr) m)
+            second-read.nodes ∙ rw (first_read.rest, first-len, first_read.nodes) (slots-both blank 0 (size first.expr) (nodes_at 0 first.expr) (nodes_at (size first.expr) second.expr) m)
 
-        pub sub-room : q.len ≤ node_limit
-        sub-room = omega (arith, second-len, first-len, begun_first.nodes, begun-second.nodes, r.room)
-
-        pub sub-rule : (slots : List Slot) → slots ≡ laid (unpacked exit q.len) → record { head = head.Sub 0 p.len; len = q.len; nodes = slots } ≡ rule_of n rule.Sub fs
-        sub-rule slots f =
-            let b = length-append (nodes_at 0 first.expr) (nodes_at (size first.expr) second.expr) in
-            let l : q.len ≡ length both = omega (arith, second-len, first-len, b, nodes-length 0 first.expr, nodes-length (size first.expr) second.expr) in
-            let u : unpacked exit q.len ≡ both = rw (l, second-nodes) (unpacked-all room both (omega (arith, l, sub-room))) in
-            rw (f, u, second-len, first-len)
+        pub sub-rule : record { head = head.Sub 0 p.len; len = q.len; nodes = exit } ≡ rule_of n rule.Sub fs
+        sub-rule = rw (second-nodes, second-len, first-len)

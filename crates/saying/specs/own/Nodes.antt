@@ -1,5 +1,5 @@
 -- The reader's own records of an expression's nodes: what a word writes at once.
-use Rattle.std.specs.Prelude.{◌≡◌, true, List, [], ◌∷◌, ℕ, ◌+◌, ◌*◌, ◌≤◌, drop, length, set}
+use Rattle.std.specs.Prelude.{◌≡◌, true, List, [], ◌∷◌, map, ℕ, ◌+◌, ◌≤◌, drop, length, set}
 use Rattle.std.proofs.lemmas.List.Edits.{sets}
 use Rattle.rule.specs.Form.{node_limit}
 use Rattle.field.specs.declared.Due.{Due}
@@ -7,19 +7,19 @@ use Rattle.field.specs.declared.Due.TheVariants as due
 use Rattle.field.specs.declared.RuleWord.{RuleWord}
 use Rattle.field.specs.Due.{dues as dues_of, fits, rule_lineup}
 use Rattle.rule.specs.declared.Node.{Node}
+use Rattle.rule.specs.declared.Slot.{Slot}
 use Rattle.rule.specs.declared.Node.TheVariants as node
 use Rattle.field.specs.declared.Operator.{Operator}
 use Rattle.field.specs.declared.Operator.TheVariants as operator
 use Rattle.saying.specs.declared.Parsed.{Parsed}
 use Rattle.field.specs.Names.{Names, count_of, nodes_in}
 use Rattle.field.specs.Words.{at, Field}
-use Rattle.saying.specs.Read.{nodes_at, read, size}
+use Rattle.saying.specs.Read.{nodes_at, read, size, slot}
 use Rattle.stated.specs.Stated.{concept_of, item_of, role_use_of}
-use Rattle.packed.specs.own.Packed.{pack_width, packs}
 
--- the nodes xs stand as numbers in the room after so many others, and r is how many there are then
-pub record PutAll (room : List ℕ) (len : ℕ) (xs : List Node) (exit : List ℕ) (r : ℕ) : Type 0 where
-  pub here : exit ≡ sets room (pack_width * len) (packs xs)
+-- the nodes xs stand in the room after so many others, and r is how many there are then
+pub record PutAll (room : List Slot) (len : ℕ) (xs : List Node) (exit : List Slot) (r : ℕ) : Type 0 where
+  pub here : exit ≡ sets room len (map slot xs)
   pub count : r ≡ len + length xs
 
 -- the nodes that the word o, the first of the fields, stands for, the first at the place i; the second child of an `and` is filled in later
@@ -68,11 +68,11 @@ children_of operator.Bot = 0
 children_of operator.None = 0
 
 -- the `and` at the place i gets its second child: the next node
-abbrev pub fill_and : List ℕ → ℕ → ℕ → List ℕ
-fill_and nodes i len = set nodes (pack_width * i + 2) len
+abbrev pub fill_and : List Slot → ℕ → ℕ → List Slot
+fill_and nodes i len = set nodes i (slot (node.And (i + 1) len))
 
 -- what stands before the second child of the word o, whose nodes begin at i: its `and`, of an `or` the one further, is filled in, and an `or` has one node more
-abbrev pub Joined : Operator → List ℕ → ℕ → ℕ → List ℕ → ℕ → Type 0
+abbrev pub Joined : Operator → List Slot → ℕ → ℕ → List Slot → ℕ → Type 0
 Joined operator.And nodes i len exit r = PutAll (fill_and nodes i len) len [] exit r
 Joined operator.Or nodes i len exit r = PutAll (fill_and nodes (i + 1) len) len (node.Not (len + 1) ∷ []) exit r
 Joined operator.Not nodes i len exit r = PutAll nodes len [] exit r
@@ -87,8 +87,8 @@ Joined operator.Bot nodes i len exit r = PutAll nodes len [] exit r
 Joined operator.None nodes i len exit r = PutAll nodes len [] exit r
 
 -- the expression that the fields fs go on with at p is read, at most `left` words deep: its nodes stand in the room after the others, and r is past it
-pub record ReadsOne (n : Names) (fs : List Field) (left : ℕ) (p : Parsed) (room exit : List ℕ) (r : Parsed) : Type 0 where
-  pub nodes : exit ≡ sets room (pack_width * p.len) (packs (nodes_at p.len (read left n (drop p.at fs)).expr))
+pub record ReadsOne (n : Names) (fs : List Field) (left : ℕ) (p : Parsed) (room exit : List Slot) (r : Parsed) : Type 0 where
+  pub nodes : exit ≡ sets room p.len (map slot (nodes_at p.len (read left n (drop p.at fs)).expr))
   pub len : r.len ≡ p.len + size (read left n (drop p.at fs)).expr
   pub rest : drop r.at fs ≡ (read left n (drop p.at fs)).rest
 

@@ -1,20 +1,14 @@
 -- `saying::rules::chain` meets its contract. Assumes nothing.
-use Rattle.text.specs.Split.{fields}
-use Rattle.field.specs.own.Table.{names_of, table_of}
+use Rattle.std.proofs.Common.{arith, ◌≡◌, ◌+◌, ◌-◌, drop, length}
+use Rattle.field.specs.own.Known.{fields_in, names_in}
 use Rattle.stated.specs.laws.Fields.{rest-count}
 use Rattle.saying.specs.laws.Rules.{chain_head, chain-some}
-use native.Mathlib.Omega.{arith}
 use Rattle.saying.proofs.rules.chain.Goals as goal
 
 pub overflow_sub-k : goal.overflow_sub-k
-overflow_sub-k c = omega (arith, rest-count c.args.from c.requires.1 c.count_from-k.ensures, chain-some _ c.requires.3)
-
-pub overflow_add-from-4 : goal.overflow_add-from-4
-overflow_add-from-4 c = omega (arith, c.count_from-k.ensures, c.requires.2, c.well_formed)
-
-pub role_use-e-requires : goal.role_use-e-requires
-role_use-e-requires c = (c.requires.0, c.requires.1)
+overflow_sub-k c = omega (arith, rest-count c.args.from c.args.fields.now.looked c.saturating_sub-k.ensures, chain-some _ c.requires.1)
 
 pub returns : goal.returns
 returns c = let x = c.args in
-    chain_head (names_of x.sheet.now (table_of x.names.now x.counts)) (fields x.line.now) x.from _ _ _ _ _ _ (omega (arith, rest-count c.args.from c.requires.1 c.count_from-k.ensures, chain-some _ c.requires.3)) c.role_use-a.ensures c.role_use-b.ensures c.role_use-c.ensures c.role_use-d.ensures c.role_use-e.ensures
+    let some : c.saturating_sub-k.result - 1 + 1 ≡ length (drop x.from (fields_in x.fields.now)) = omega (arith, rest-count x.from x.fields.now.looked c.saturating_sub-k.ensures, chain-some _ c.requires.1) in
+    chain_head (names_in x.known.now) (fields_in x.fields.now) x.from _ _ _ _ _ _ some c.role_use-a.ensures c.role_use-b.ensures c.role_use-c.ensures c.role_use-d.ensures c.role_use-e.ensures
