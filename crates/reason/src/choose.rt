@@ -10,14 +10,12 @@ fn find(codes: &[u32], g: Fact, same: &[u64], width: usize, above: &[u64]) -> us
     requires { Sighted width g codes.now same.now above.now }
     ensures { Starts g codes.now result }
 {
-    let mut i = 0;
-    while i < codes.len() {
+    for i in 0..codes.len() {
         if crate::facts::meets(same, width, above, crate::facts::fact_at(codes, i), g) {
             return i;
         }
-        i += 1;
     }
-    i
+    codes.len()
 }
 
 // Marks the steps above by which the fact g is reached; says from which statement on.

@@ -1,7 +1,7 @@
-// Statements as numbers.
+// Statements as numbers of 4 bytes, since as many as `Lines::MOST` of them lie in fixed memory, where a `Statement` would take 32 each.
 ghost use Rattle.std.specs.Prelude.{◌≡◌, ◌+◌, ◌*◌, ◌<◌};
 ghost use Rattle.store.specs.Cell.{cell_of};
-ghost use Rattle.reason.specs.own.Code.{Small, cell_at, role_kind};
+ghost use Rattle.reason.specs.own.Code.{Small, cell_at};
 
 use store::{Concept, Item, Role, Statement};
 
@@ -13,16 +13,6 @@ fn number(kind: usize, a: usize, b: usize, r: usize) -> u32
     (kind + 8 * a + 4096 * b + 2097152 * r) as u32
 }
 
-// The kind of a step from role to role: to the role itself, or to its inverse.
-fn role_kind(inverse: bool) -> usize
-    ensures { result ≡ role_kind inverse }
-{
-    if inverse {
-        return 3;
-    }
-    2
-}
-
 // The number of a statement, whose numbers are small.
 pub fn code(s: Statement) -> u32
     requires { Small s }
@@ -31,7 +21,13 @@ pub fn code(s: Statement) -> u32
     match s {
         Statement::Same(a, b) => number(0, a.0, b.0, 0),
         Statement::Under(a, b) => number(1, a.0, b.0, 0),
-        Statement::RoleUnder(r, u, t) => number(role_kind(u), r.0, t.0, 0),
+        Statement::RoleUnder(r, u, t) => {
+            if u {
+                number(3, r.0, t.0, 0)
+            } else {
+                number(2, r.0, t.0, 0)
+            }
+        }
         Statement::In(a, b) => number(4, a.0, b.0, 0),
         Statement::Link(r, a, b) => number(5, a.0, b.0, r.0),
     }

@@ -1,65 +1,28 @@
 // From one item in a concept to another, and from link to link.
-ghost use Rattle.std.specs.Prelude.{◌≡◌, ◌<◌, length};
+ghost use Rattle.std.specs.Prelude.{◌≡◌, ◌<◌, length, IfSome};
 ghost use Rattle.store.specs.Cell.{cell_of};
-ghost use Rattle.store.specs.Layout.{concept_limit, item_limit, role_limit};
 ghost use Rattle.reason.specs.own.Aim as aim;
-ghost use Rattle.reason.specs.own.Aim.{Near, Small};
+ghost use Rattle.reason.specs.own.Aim.{Near, Raised, Rising, Small};
 ghost use Rattle.reason.specs.own.Fact as spec;
 ghost use Rattle.reason.specs.own.Fact.{above_width, fact_of, kind_above};
 ghost use Rattle.reason.specs.own.Promise.{Lent};
-ghost use Rattle.reason.specs.own.Walk.{node};
 
 use crate::{Fact, Goal, Kind, Lines, Route, Way};
 use store::{Statement, Store};
 
-// The place of a role, or of its inverse.
-pub fn role_place(inverse: bool, r: usize) -> usize
-    requires { r < role_limit }
-    ensures { result ≡ node inverse r }
-{
-    if inverse {
-        return Store::ROLES + r;
-    }
-    r
-}
-
-// What a statement states that states no fact.
-fn neither() -> Fact
-    ensures { result ≡ spec.neither }
-{
-    Fact {
-        sort: 0,
-        above: 0,
-        first: 0,
-        second: 0,
-    }
-}
-
-// The fact that a statement states.
-pub fn stated(s: Statement) -> Fact
+// The fact that a statement states, if it states one.
+fn stated(s: Statement) -> Option<Fact>
     ensures { result ≡ fact_of (cell_of s) }
 {
     match s {
-        Statement::Same(_, _) => neither(),
-        Statement::Under(_, _) => neither(),
-        Statement::RoleUnder(_, _, _) => neither(),
-        Statement::In(a, b) => Fact {
-            sort: 1,
-            above: b.0,
-            first: a.0,
-            second: a.0,
-        },
-        Statement::Link(r, a, b) => Fact {
-            sort: 2,
-            above: r.0,
-            first: a.0,
-            second: b.0,
-        },
+        Statement::In(a, b) => Some(Fact::Member(a, b)),
+        Statement::Link(r, a, b) => Some(Fact::Link(r, a, b)),
+        _ => None,
     }
 }
 
-// The fact that the number at the place i states.
-pub fn fact_at(codes: &[u32], i: usize) -> Fact
+// The fact that the number at the place i states, if it states one.
+pub fn fact_at(codes: &[u32], i: usize) -> Option<Fact>
     requires { i < length codes.now }
     ensures { result ≡ aim.fact_at codes.now i }
 {
@@ -70,74 +33,89 @@ pub fn fact_at(codes: &[u32], i: usize) -> Fact
 pub fn kind_above(g: Fact) -> Kind
     ensures { result ≡ kind_above g }
 {
-    if g.sort == 1 { Kind::Under } else { Kind::Role }
+    match g {
+        Fact::Member(_, _) => Kind::Under,
+        Fact::Link(_, _, _) => Kind::Role,
+    }
 }
 
 // The way from one fact to another of the same sort.
-fn straight(f: Fact, g: Fact) -> Route
+fn straight(f: Option<Fact>, g: Fact) -> Option<Route>
     ensures { result ≡ spec.straight f g }
 {
-    Route {
-        on: f.sort == g.sort,
-        from: f.above,
-        to: g.above,
-        a: f.first,
-        b: g.first,
-        c: f.second,
-        d: g.second,
+    match (f?, g) {
+        (Fact::Member(a, c), Fact::Member(b, d)) => Some(Route {
+            from: c.0,
+            to: d.0,
+            ends: Way {
+                a: a.0,
+                b: b.0,
+                c: a.0,
+                d: b.0,
+            },
+        }),
+        (Fact::Link(r, a, c), Fact::Link(s, b, d)) => Some(Route {
+            from: r.0,
+            to: s.0,
+            ends: Way {
+                a: a.0,
+                b: b.0,
+                c: c.0,
+                d: d.0,
+            },
+        }),
+        _ => None,
     }
 }
 
 // The way from one link to another by the inverse of the other's role.
-fn turned(f: Fact, g: Fact) -> Route
-    requires { g.above < concept_limit }
+fn turned(f: Option<Fact>, g: Fact) -> Option<Route>
+    requires { Raised g }
     ensures { result ≡ spec.turned f g }
 {
-    Route {
-        on: row::bit::both(f.sort == g.sort, g.sort == 2),
-        from: f.above,
-        to: Store::ROLES + g.above,
-        a: f.first,
-        b: g.second,
-        c: f.second,
-        d: g.first,
+    match (f?, g) {
+        (Fact::Link(r, a, c), Fact::Link(s, b, d)) => Some(Route {
+            from: r.0,
+            to: Store::ROLES + s.0,
+            ends: Way {
+                a: a.0,
+                b: d.0,
+                c: c.0,
+                d: b.0,
+            },
+        }),
+        _ => None,
     }
 }
 
-// The way above of a route, by the table of the steps of "same".
-fn above_way(t: &[u64], width: usize, r: Route) -> Way
-    requires { Lent width t.now × Near width r }
+// The way above of a route, if steps of "same" lead between its ends, by their table.
+fn above_way(t: &[u64], width: usize, r: Option<Route>) -> Option<Way>
+    requires { Lent width t.now × IfSome r (Near width) }
     ensures { result ≡ aim.above_by width t.now r }
 {
-    let first = crate::reach::leads(t, width, r.a, r.b);
-    let second = crate::reach::leads(t, width, r.c, r.d);
-    Way {
-        on: row::bit::both(r.on, row::bit::both(first, second)),
+    let r = r?;
+    let open = crate::reach::along(t, width, r.ends);
+    open.then_some(Way {
         a: r.from,
         b: r.to,
         c: r.from,
         d: r.to,
-    }
+    })
 }
 
-// The way of "same" of a route, by the table of the steps above.
-fn same_way(t: &[u64], r: Route) -> Way
-    requires { Lent above_width t.now × (r.from < item_limit above_width) × (r.to < item_limit above_width) }
+// The way of "same" of a route, if steps above lead along it, by their table.
+fn same_way(t: &[u64], r: Option<Route>) -> Option<Way>
+    requires { Lent above_width t.now × IfSome r Rising }
     ensures { result ≡ aim.same_by t.now r }
 {
-    let w = Lines::ABOVE_WIDTH;
-    Way {
-        on: row::bit::both(r.on, crate::reach::leads(t, w, r.from, r.to)),
-        a: r.a,
-        b: r.b,
-        c: r.c,
-        d: r.d,
-    }
+    let r = r?;
+    let open = crate::reach::leads(t, Lines::ABOVE_WIDTH, r.from, r.to);
+    open.then_some(r.ends)
 }
 
 // The steps above that have to lead from one fact to another, by the table of the steps of "same".
-pub fn above_goal(t: &[u64], width: usize, f: Fact, g: Fact) -> Goal
-    requires { Lent width t.now × Small width f × Small width g }
+pub fn above_goal(t: &[u64], width: usize, f: Option<Fact>, g: Fact) -> Goal
+    requires { Lent width t.now × IfSome f (Small width) × Small width g }
     ensures { result ≡ aim.above_goal width t.now f g }
 {
     let one = above_way(t, width, straight(f, g));
@@ -146,8 +124,8 @@ pub fn above_goal(t: &[u64], width: usize, f: Fact, g: Fact) -> Goal
 }
 
 // The steps of "same" that have to lead from one fact to another, by the table of the steps above.
-pub fn same_goal(t: &[u64], f: Fact, g: Fact) -> Goal
-    requires { Lent above_width t.now × (f.above < concept_limit) × (g.above < concept_limit) }
+pub fn same_goal(t: &[u64], f: Option<Fact>, g: Fact) -> Goal
+    requires { Lent above_width t.now × IfSome f Raised × Raised g }
     ensures { result ≡ aim.same_goal t.now f g }
 {
     let one = same_way(t, straight(f, g));
@@ -155,24 +133,24 @@ pub fn same_goal(t: &[u64], f: Fact, g: Fact) -> Goal
     Goal { one, other }
 }
 
-// Whether steps lead along a route.
-fn opens(same: &[u64], width: usize, above: &[u64], r: Route) -> bool
-    requires { Lent width same.now × Lent above_width above.now × Near width r }
+// Whether steps lead along a route, by the tables of "same" and of the steps above.
+fn opens(same: &[u64], width: usize, above: &[u64], r: Option<Route>) -> bool
+    requires { Lent width same.now × Lent above_width above.now × IfSome r (Near width) }
     ensures { result ≡ aim.opensb width same.now above.now r }
 {
-    let w = above_way(same, width, r);
-    row::bit::both(
-        w.on,
-        crate::reach::leads(above, Lines::ABOVE_WIDTH, r.from, r.to),
-    )
+    match r {
+        Some(r) => {
+            crate::reach::along(same, width, r.ends)
+                && crate::reach::leads(above, Lines::ABOVE_WIDTH, r.from, r.to)
+        }
+        None => false,
+    }
 }
 
-// Whether steps lead from one fact to another.
-pub fn meets(same: &[u64], width: usize, above: &[u64], f: Fact, g: Fact) -> bool
-    requires { Lent width same.now × Lent above_width above.now × Small width f × Small width g }
+// Whether steps lead from one fact to another, by the tables of "same" and of the steps above.
+pub fn meets(same: &[u64], width: usize, above: &[u64], f: Option<Fact>, g: Fact) -> bool
+    requires { Lent width same.now × Lent above_width above.now × IfSome f (Small width) × Small width g }
     ensures { result ≡ aim.meetsb width same.now above.now f g }
 {
-    let one = opens(same, width, above, straight(f, g));
-    let other = opens(same, width, above, turned(f, g));
-    row::bit::either(one, other)
+    opens(same, width, above, straight(f, g)) || opens(same, width, above, turned(f, g))
 }

@@ -13,7 +13,7 @@ ghost use Rattle.reason.specs.own.Aim.{plain_goal};
 ghost use Rattle.reason.specs.own.Promise.{Reasoned, Sought};
 ghost use Rattle.reason.specs.own.Seek.{Narrowest, Wanted};
 
-use store::{Counts, Statement};
+use store::{Concept, Counts, Item, Role, Statement};
 
 // The statements that are searched.
 #[derive(Drop)]
@@ -40,52 +40,44 @@ pub enum Kind {
     Role,
 }
 
-// A way that has to lead from a to b and from c to d, if it is open.
+// A way: steps have to lead from a to b, and from c to d.
 #[derive(Clone, Copy)]
 pub struct Way {
-    pub on: bool,
     pub a: usize,
     pub b: usize,
     pub c: usize,
     pub d: usize,
 }
 
-// What is sought: one of two ways.
+// What is sought: one of two ways, as far as they are open.
 #[derive(Clone, Copy)]
 pub struct Goal {
-    pub one: Way,
-    pub other: Way,
+    pub one: Option<Way>,
+    pub other: Option<Way>,
 }
 
-// The steps that a statement states, if any: from a to b, and from c to d.
+// The steps that a statement states: from a to b, and from c to d.
 #[derive(Clone, Copy)]
 pub struct Steps {
-    pub any: bool,
     pub a: usize,
     pub b: usize,
     pub c: usize,
     pub d: usize,
 }
 
-// An item in a concept (sort 1: the item twice, and the concept above) or a link (sort 2: the two items, and the role above); any other sort is neither.
+// A fact: an item in a concept, or a link from one item to another.
 #[derive(Clone, Copy)]
-pub struct Fact {
-    pub sort: usize,
-    pub above: usize,
-    pub first: usize,
-    pub second: usize,
+pub enum Fact {
+    Member(Item, Concept),
+    Link(Role, Item, Item),
 }
 
-// A way from one fact to another, if it is open: from the concept or the role `from` to `to`, from the item a to b and from c to d.
+// A way from one fact to another: from the concept or the role `from` to `to`, and between the items `ends`.
 #[derive(Clone, Copy)]
 pub struct Route {
-    pub on: bool,
     pub from: usize,
     pub to: usize,
-    pub a: usize,
-    pub b: usize,
-    pub c: usize,
-    pub d: usize,
+    pub ends: Way,
 }
 
 // Marks steps of a kind by which y is reached from x.
@@ -102,21 +94,17 @@ fn by_steps(
     requires { Wanted width kind nodes (plain_goal x y) codes.now t.old marks.old }
     ensures { Narrowest kind (plain_goal x y) codes.now marks.new }
 {
-    let one = Way {
-        on: true,
+    let way = Way {
         a: x,
         b: y,
         c: x,
         d: y,
     };
-    let other = Way {
-        on: false,
-        a: x,
-        b: y,
-        c: x,
-        d: y,
+    let goal = Goal {
+        one: Some(way),
+        other: None,
     };
-    crate::seek::narrow(codes, kind, nodes, Goal { one, other }, t, width, marks);
+    crate::seek::narrow(codes, kind, nodes, goal, t, width, marks);
 }
 
 // Marks a reason for the cell that `goal` states: statements from which it follows, and from no part of them with one taken out. The words lent have room for a row of `width` words for each item.
@@ -142,15 +130,15 @@ pub fn explain(
             by_steps(codes, Kind::Under, above, a.0, b.0, table, one, marks)
         }
         Statement::RoleUnder(r, u, s) => {
-            let y = crate::facts::role_place(u, s.0);
+            let y = crate::reach::role_place(u, s.0);
             by_steps(codes, Kind::Role, above, r.0, y, table, one, marks)
         }
-        Statement::In(_, _) => {
-            let g = crate::facts::stated(goal);
+        Statement::In(a, b) => {
+            let g = Fact::Member(a, b);
             crate::choose::by_fact(codes, counts, g, table, width, marks)
         }
-        Statement::Link(_, _, _) => {
-            let g = crate::facts::stated(goal);
+        Statement::Link(r, a, b) => {
+            let g = Fact::Link(r, a, b);
             crate::choose::by_fact(codes, counts, g, table, width, marks)
         }
     }

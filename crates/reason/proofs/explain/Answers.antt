@@ -1,7 +1,5 @@
 -- `reason::explain` meets its contract. Assumes nothing.
-use native.Mathlib.Omega.{arith}
-use Rattle.store.specs.Cell.{cell_of}
-use Rattle.reason.specs.own.Fact.{Ties}
+use Rattle.std.proofs.Common.{refl, arith}
 use Rattle.reason.specs.laws.Explain.{aimed-of, fact-reasoned, plain-reasoned, plain-role, plain-same, plain-under, plain-wanted, role-low}
 use Rattle.reason.proofs.explain.Goals as goal
 
@@ -12,16 +10,16 @@ pub by_steps-requires-in-Under : goal.by_steps-requires-in-Under
 by_steps-requires-in-Under c = let s = rw c.in-Under.is at c.requires in plain-wanted s (plain-under s)
 
 pub role_place-y-requires : goal.role_place-y-requires
-role_place-y-requires c = let s = rw c.in-RoleUnder.is at c.requires in role-low s
+role_place-y-requires c = let s = rw c.in-RoleUnder.is at c.requires in omega (arith, role-low s)
 
 pub by_steps-requires-in-RoleUnder : goal.by_steps-requires-in-RoleUnder
 by_steps-requires-in-RoleUnder c = let s = rw c.in-RoleUnder.is at c.requires in plain-wanted s (plain-role c.role_place-y.ensures s)
 
 pub by_fact-requires : goal.by_fact-requires
-by_fact-requires c = let t : Ties (cell_of c.args.goal) = rw c.in-In.is (λ e. omega arith) in (rw c.stated-g.ensures (aimed-of c.requires t), c.requires.lent, record { wide = c.requires.wide; clear = c.requires.clear })
+by_fact-requires c = let s = rw c.in-In.is at c.requires in (aimed-of s refl, s.lent, record { wide = s.wide; clear = s.clear })
 
 pub by_fact-requires-in-Link : goal.by_fact-requires-in-Link
-by_fact-requires-in-Link c = let t : Ties (cell_of c.args.goal) = rw c.in-Link.is (λ e. omega arith) in (rw c.stated-g-in-Link.ensures (aimed-of c.requires t), c.requires.lent, record { wide = c.requires.wide; clear = c.requires.clear })
+by_fact-requires-in-Link c = let s = rw c.in-Link.is at c.requires in (aimed-of s refl, s.lent, record { wide = s.wide; clear = s.clear })
 
 pub returns-in-Same : goal.returns-in-Same
 returns-in-Same c = let s = rw c.in-Same.is at c.requires in rw c.in-Same.is (plain-reasoned s (plain-same s) c.by_steps.ensures)
@@ -33,7 +31,7 @@ pub returns-in-RoleUnder : goal.returns-in-RoleUnder
 returns-in-RoleUnder c = let s = rw c.in-RoleUnder.is at c.requires in rw c.in-RoleUnder.is (plain-reasoned s (plain-role c.role_place-y.ensures s) c.by_steps-in-RoleUnder.ensures)
 
 pub returns-in-In : goal.returns-in-In
-returns-in-In c = let t : Ties (cell_of c.args.goal) = rw c.in-In.is (λ e. omega arith) in fact-reasoned c.requires t (rw c.stated-g.ensures at c.by_fact.ensures)
+returns-in-In c = let s = rw c.in-In.is at c.requires in rw c.in-In.is (fact-reasoned s refl c.by_fact.ensures)
 
 pub returns-in-Link : goal.returns-in-Link
-returns-in-Link c = let t : Ties (cell_of c.args.goal) = rw c.in-Link.is (λ e. omega arith) in fact-reasoned c.requires t (rw c.stated-g-in-Link.ensures at c.by_fact-in-Link.ensures)
+returns-in-Link c = let s = rw c.in-Link.is at c.requires in rw c.in-Link.is (fact-reasoned s refl c.by_fact-in-Link.ensures)

@@ -1,26 +1,33 @@
 -- Facts and goals: from what a table and a search promise to minimal parts. Assumes nothing.
-use Rattle.std.specs.Prelude.{◌≡◌, refl, Bool, true, false, cond, List, ℕ, ◌+◌, ◌≤◌, ◌<◌, eqb, length, get_or}
-use Rattle.std.proofs.Common.{sym, ◌∙◌, subst, inl, inr, true≢false, arith}
+use Rattle.std.specs.Prelude.{◌≡◌, refl, ◌⊎◌, Bool, true, false, cond, Option, Some, None, IfSome, IsSomeAnd, List, ℕ, ◌+◌, ◌≤◌, ◌<◌, length, get_or}
+use Rattle.std.proofs.Common.{sym, subst, inl, inr, arith}
+use Rattle.std.proofs.lemmas.Bool.{false≢true}
 use Rattle.std.proofs.Math.Decide.{dec_lt}
 use Rattle.logic.specs.own.Decides.{Decides}
+use Rattle.logic.specs.laws.Decides.{decides-both, decides-iff, decides-no}
 use Rattle.store.specs.declared.Counts.{Counts}
 use Rattle.store.specs.Cell.{Cell, Within, DeclaredItem}
 use Rattle.store.specs.Cell.Cell.{Same, Under, RoleUnder, In, Link}
 use Rattle.store.specs.Layout.{Fits, item_limit}
 use Rattle.reason.specs.declared.Fact.{Fact}
+use Rattle.reason.specs.declared.Fact.TheVariants as fact
 use Rattle.reason.specs.declared.Kind.{Kind}
 use Rattle.reason.specs.declared.Kind.TheVariants as kind
 use Rattle.reason.specs.declared.Route.{Route}
-use Rattle.reason.specs.own.Aim.{Above, Aimed, Beside, Bounded, Fresh, Inside, Near, Sighted, Small, Starts, Tables, above_by, above_goal, fact_at, meetsb, opensb, places_of, row_of, same_by, same_goal}
+use Rattle.reason.specs.declared.Way.{Way}
+use Rattle.reason.specs.own.Aim.{Above, Aimed, Beside, Bounded, Fresh, Inside, Near, Raised, Rising, Sighted, Small, Starts, Tables, above_by, above_goal, fact_at, meetsb, opensb, places_of, row_of, same_by, same_goal}
 use Rattle.reason.specs.own.Code.{AllWithin, Coded, cell_at}
 use Rattle.reason.specs.own.Code.Coded.{coded}
 use Rattle.reason.specs.own.Fact.{Along, Meets, above_width, fact_of, kind_above, places_above, straight, turned}
+use Rattle.reason.specs.own.Fact.Meets.{by_straight, by_turned}
 use Rattle.reason.specs.own.Picked.{picked}
 use Rattle.reason.specs.own.Promise.{Lent}
-use Rattle.reason.specs.own.Seek.{Narrowest, StepsBelow, Tabled, Wanted, leadsb}
-use Rattle.reason.specs.own.Walk.{CellStep, Leads, Reached}
+use Rattle.reason.specs.own.Seek.{GoalBelow, Narrowest, OpenBelow, StepsBelow, Tabled, Wanted, WayBelow, leadsb}
+use Rattle.reason.specs.own.Steps.{alongb}
+use Rattle.reason.specs.own.Walk.{CellStep, Leads, Reached, Walk}
+use Rattle.reason.specs.own.Walk.Reached.{by_one, by_other}
 use Rattle.reason.specs.own.Walk.CellStep.{same, same_back, under, role, role-turned}
-use Rattle.reason.specs.laws.Flag.{both-on, decided, decides-either, left-on, right-on}
+use Rattle.reason.specs.laws.Flag.{decided, decides-either}
 use Rattle.reason.specs.laws.Place.{at_one, minimal_iff, one_at}
 
 -- ---- numbers below the limits
@@ -43,104 +50,177 @@ places-fit n kind.Under f = omega arith
 places-fit n kind.Role f = omega arith
 
 places-above : (n : Counts) (g : Fact) → places_of n (kind_above g) ≡ places_above
-places-above n g = go (eqb g.sort 1)
-  where
-    go : (b : Bool) → places_of n (cond b kind.Under kind.Role) ≡ places_above
-    go true = refl
-    go false = refl
+places-above n (fact.Member a b) = refl
+places-above n (fact.Link r a b) = refl
 
--- the fact of a cell within the counts; that of another cell, if there is an item
-pub fact-bounded : {W : ℕ} {n : Counts} (c : Cell) → Fits W n → Within n c → DeclaredItem n 0 → Bounded n (fact_of c)
-fact-bounded (Same a b) f h z = record { above = omega arith; first = z; second = z }
-fact-bounded (Under a b) f h z = record { above = omega arith; first = z; second = z }
-fact-bounded (RoleUnder r u s) f h z = record { above = omega arith; first = z; second = z }
-fact-bounded (In a b) f h z = record { above = omega (arith, f.concepts, h.1); first = h.0; second = h.0 }
-fact-bounded (Link r a b) f h z = record { above = omega (arith, f.roles, h.0); first = h.1; second = h.2 }
+-- the fact of a cell within the counts, if it states one
+pub fact-bounded : {W : ℕ} {n : Counts} (c : Cell) → Fits W n → Within n c → IfSome (fact_of c) (Bounded n)
+fact-bounded (Same a b) f h = tt
+fact-bounded (Under a b) f h = tt
+fact-bounded (RoleUnder r u s) f h = tt
+fact-bounded (In a b) f h = record { above = omega (arith, f.concepts, h.1); first = h.0; second = h.0 }
+fact-bounded (Link r a b) f h = record { above = omega (arith, f.roles, h.0); first = h.1; second = h.2 }
 
-straight-within : {n : Counts} {f g : Fact} → Bounded n f → Bounded n g → Inside n (straight f g)
-straight-within b d = record { from = omega (arith, b.above); to = omega (arith, d.above); a = b.first; b = d.first; c = b.second; d = d.second }
+straight-within : {n : Counts} (f : Option Fact) (g : Fact) → IfSome f (Bounded n) → Bounded n g → IfSome (straight f g) (Inside n)
+straight-within None g b d = tt
+straight-within (Some (fact.Member a c)) (fact.Member e h) b d = record { from = omega (arith, b.above); to = omega (arith, d.above); ends = (b.first, d.first, b.second, d.second) }
+straight-within (Some (fact.Member a c)) (fact.Link s e h) b d = tt
+straight-within (Some (fact.Link r a c)) (fact.Member e h) b d = tt
+straight-within (Some (fact.Link r a c)) (fact.Link s e h) b d = record { from = omega (arith, b.above); to = omega (arith, d.above); ends = (b.first, d.first, b.second, d.second) }
 
-turned-within : {n : Counts} {f g : Fact} → Bounded n f → Bounded n g → Inside n (turned f g)
-turned-within b d = record { from = omega (arith, b.above); to = omega (arith, d.above); a = b.first; b = d.second; c = b.second; d = d.first }
+turned-within : {n : Counts} (f : Option Fact) (g : Fact) → IfSome f (Bounded n) → Bounded n g → IfSome (turned f g) (Inside n)
+turned-within None g b d = tt
+turned-within (Some (fact.Member a c)) g b d = tt
+turned-within (Some (fact.Link r a c)) (fact.Member e h) b d = tt
+turned-within (Some (fact.Link r a c)) (fact.Link s e h) b d = record { from = omega (arith, b.above); to = omega (arith, d.above); ends = (b.first, d.second, b.second, d.first) }
 
 bounded-small : {W : ℕ} {n : Counts} {f : Fact} → Fits W n → Bounded n f → Small W f
 bounded-small h b = record { above = b.above; first = omega (arith, h.items, b.first); second = omega (arith, h.items, b.second) }
 
-pub straight-near : {W : ℕ} {f g : Fact} → Small W f → Small W g → Near W (straight f g)
-straight-near b d = record { from = omega (arith, b.above); to = omega (arith, d.above); a = b.first; b = d.first; c = b.second; d = d.second }
+-- what may be a fact too
+bounded-any : {W : ℕ} {n : Counts} (f : Option Fact) → Fits W n → IfSome f (Bounded n) → IfSome f (Small W)
+bounded-any None h b = tt
+bounded-any (Some f) h b = bounded-small h b
 
-pub turned-near : {W : ℕ} {f g : Fact} → Small W f → Small W g → Near W (turned f g)
-turned-near b d = record { from = omega (arith, b.above); to = omega (arith, d.above); a = b.first; b = d.second; c = b.second; d = d.first }
+pub straight-near : {W : ℕ} (f : Option Fact) (g : Fact) → IfSome f (Small W) → Small W g → IfSome (straight f g) (Near W)
+straight-near None g b d = tt
+straight-near (Some (fact.Member a c)) (fact.Member e h) b d = record { rising = record { from = omega (arith, b.above); to = omega (arith, d.above) }; ends = (b.first, d.first, b.second, d.second) }
+straight-near (Some (fact.Member a c)) (fact.Link s e h) b d = tt
+straight-near (Some (fact.Link r a c)) (fact.Member e h) b d = tt
+straight-near (Some (fact.Link r a c)) (fact.Link s e h) b d = record { rising = record { from = omega (arith, b.above); to = omega (arith, d.above) }; ends = (b.first, d.first, b.second, d.second) }
+
+pub turned-near : {W : ℕ} (f : Option Fact) (g : Fact) → IfSome f (Small W) → Small W g → IfSome (turned f g) (Near W)
+turned-near None g b d = tt
+turned-near (Some (fact.Member a c)) g b d = tt
+turned-near (Some (fact.Link r a c)) (fact.Member e h) b d = tt
+turned-near (Some (fact.Link r a c)) (fact.Link s e h) b d = record { rising = record { from = omega (arith, b.above); to = omega (arith, d.above) }; ends = (b.first, d.second, b.second, d.first) }
+
+pub straight-rising : (f : Option Fact) (g : Fact) → IfSome f Raised → Raised g → IfSome (straight f g) Rising
+straight-rising None g b d = tt
+straight-rising (Some (fact.Member a c)) (fact.Member e h) b d = record { from = omega (arith, b); to = omega (arith, d) }
+straight-rising (Some (fact.Member a c)) (fact.Link s e h) b d = tt
+straight-rising (Some (fact.Link r a c)) (fact.Member e h) b d = tt
+straight-rising (Some (fact.Link r a c)) (fact.Link s e h) b d = record { from = omega (arith, b); to = omega (arith, d) }
+
+pub turned-rising : (f : Option Fact) (g : Fact) → IfSome f Raised → Raised g → IfSome (turned f g) Rising
+turned-rising None g b d = tt
+turned-rising (Some (fact.Member a c)) g b d = tt
+turned-rising (Some (fact.Link r a c)) (fact.Member e h) b d = tt
+turned-rising (Some (fact.Link r a c)) (fact.Link s e h) b d = record { from = omega (arith, b); to = omega (arith, d) }
+
+-- what is above it, if it is a fact
+pub small-raised : (W : ℕ) (f : Option Fact) → IfSome f (Small W) → IfSome f Raised
+small-raised W None b = tt
+small-raised W (Some f) b = b.above
 
 -- ---- ways and routes
 
-module _ {W : ℕ} {n : Counts} {codes t : List ℕ} {U : Cell → Type 0} {k : Kind} (r : Route) (w : Inside n r) (h : Tabled W t kind.Same n.items codes) where
-  above-leads : Along (Coded codes) U k r → Leads U k (above_by W t r)
-  above-leads l = record {
-    on = both-on r.on _ l.on (both-on (leadsb W t r.a r.b) _ (decided (h.leads r.a r.b w.a w.b) l.first) (decided (h.leads r.c r.d w.c w.d) l.second));
-    first = l.above;
-    second = l.above;
-  }
+-- a value that is there if a test holds
+cond-is : {A : Type 0} (P : A → Type 0) (x : A) (b : Bool) → b ≡ true → P x → IsSomeAnd (cond b (Some x) None) P
+cond-is P x true e p = p
+cond-is P x false e p = absurd (false≢true e)
 
-  leads-above : Leads U k (above_by W t r) → Along (Coded codes) U k r
-  leads-above l = record {
-    on = left-on r.on _ l.on;
-    above = l.first;
-    first = (h.leads r.a r.b w.a w.b).holds (left-on (leadsb W t r.a r.b) _ (right-on r.on _ l.on));
-    second = (h.leads r.c r.d w.c w.d).holds (right-on (leadsb W t r.a r.b) _ (right-on r.on _ l.on));
-  }
+is-cond : {A : Type 0} (P : A → Type 0) (x : A) (b : Bool) → IsSomeAnd (cond b (Some x) None) P → (b ≡ true) × P x
+is-cond P x true p = (refl, p)
+is-cond P x false p = absurd p
 
-module _ {n : Counts} {codes t : List ℕ} {S : Cell → Type 0} {k : Kind} (r : Route) (w : Inside n r) (h : Tabled above_width t k places_above codes) where
-  same-leads : Along S (Coded codes) k r → Leads S kind.Same (same_by t r)
-  same-leads l = record { on = both-on r.on _ l.on (decided (h.leads r.from r.to w.from w.to) l.above); first = l.first; second = l.second }
+if-cond : {A : Type 0} (P : A → Type 0) (x : A) (b : Bool) → P x → IfSome (cond b (Some x) None) P
+if-cond P x true p = p
+if-cond P x false p = tt
 
-  leads-same : Leads S kind.Same (same_by t r) → Along S (Coded codes) k r
-  leads-same l = record { on = left-on r.on _ l.on; above = (h.leads r.from r.to w.from w.to).holds (right-on r.on _ l.on); first = l.first; second = l.second }
+-- the way from what is above to what is above
+abbrev up_way : Route → Way
+up_way r = record { a = r.from; b = r.to; c = r.from; d = r.to }
+
+-- whether steps lead along a way
+along-decides : {W nodes : ℕ} {k : Kind} {codes t : List ℕ} (w : Way) → WayBelow nodes w → Tabled W t k nodes codes → Decides (alongb W t w) (Walk (Coded codes) k w.a w.b × Walk (Coded codes) k w.c w.d)
+along-decides w b h = decides-both (h.leads w.a w.b b.0 b.1) (h.leads w.c w.d b.2 b.3) refl
+
+module _ {W : ℕ} (n : Counts) {codes t : List ℕ} (U : Cell → Type 0) (k : Kind) (h : Tabled W t kind.Same n.items codes) where
+  above-leads : (r : Option Route) → IfSome r (Inside n) → IsSomeAnd r (Along (Coded codes) U k) → IsSomeAnd (above_by W t r) (Leads U k)
+  above-leads None w l = l
+  above-leads (Some r) w l = cond-is (Leads U k) (up_way r) (alongb W t r.ends) (decided (along-decides r.ends w.ends h) (l.first, l.second)) (record { first = l.above; second = l.above })
+
+  leads-above : (r : Option Route) → IfSome r (Inside n) → IsSomeAnd (above_by W t r) (Leads U k) → IsSomeAnd r (Along (Coded codes) U k)
+  leads-above None w l = l
+  leads-above (Some r) w l =
+      let z = is-cond (Leads U k) (up_way r) (alongb W t r.ends) l in
+      let e = (along-decides r.ends w.ends h).holds z.0 in
+      record { above = z.1.first; first = e.0; second = e.1 }
+
+module _ (n : Counts) {codes t : List ℕ} (S : Cell → Type 0) {k : Kind} (h : Tabled above_width t k places_above codes) where
+  same-leads : (r : Option Route) → IfSome r (Inside n) → IsSomeAnd r (Along S (Coded codes) k) → IsSomeAnd (same_by t r) (Leads S kind.Same)
+  same-leads None w l = l
+  same-leads (Some r) w l = cond-is (Leads S kind.Same) r.ends (leadsb above_width t r.from r.to) (decided (h.leads r.from r.to w.from w.to) l.above) (record { first = l.first; second = l.second })
+
+  leads-same : (r : Option Route) → IfSome r (Inside n) → IsSomeAnd (same_by t r) (Leads S kind.Same) → IsSomeAnd r (Along S (Coded codes) k)
+  leads-same None w l = l
+  leads-same (Some r) w l =
+      let z = is-cond (Leads S kind.Same) r.ends (leadsb above_width t r.from r.to) l in
+      record { above = (h.leads r.from r.to w.from w.to).holds z.0; first = z.1.first; second = z.1.second }
 
 -- whether steps lead along a route
-opens-decides : {W : ℕ} {n : Counts} {g : Fact} {codes t u : List ℕ} (r : Route) → Inside n r → Tables W n g codes t u → Decides (opensb W t u r) (Along (Coded codes) (Coded codes) (kind_above g) r)
-opens-decides {W} {n} {g} {codes} {t} {u} r w h = record { holds = yes-so; fails = λ e l. true≢false (sym (not_so l) ∙ e) }
+opens-decides : {W : ℕ} (n : Counts) {g : Fact} {codes t u : List ℕ} (r : Option Route) → IfSome r (Inside n) → Tables W n g codes t u
+    → Decides (opensb W t u r) (IsSomeAnd r (Along (Coded codes) (Coded codes) (kind_above g)))
+opens-decides n None w h = decides-no (λ l. l)
+opens-decides n (Some r) w h =
+    decides-iff (λ l. record { above = l.1; first = l.0.0; second = l.0.1 }) (λ l. ((l.first, l.second), l.above))
+    (decides-both (along-decides r.ends w.ends h.of-same) (h.of-above.leads r.from r.to w.from w.to) refl)
+
+meets-decides : {W : ℕ} {n : Counts} (f : Option Fact) {g : Fact} {codes t u : List ℕ} → IfSome f (Bounded n) → Bounded n g → Tables W n g codes t u → Decides (meetsb W t u f g) (Meets (Coded codes) (Coded codes) f g)
+meets-decides {n = n} f {g} {codes} b d h = decides-iff ways back (decides-either (opens-decides n (straight f g) (straight-within f g b d) h) (opens-decides n (turned f g) (turned-within f g b d) h))
   where
-    yes-so : opensb W t u r ≡ true → Along (Coded codes) (Coded codes) (kind_above g) r
-    yes-so e =
-        let walk = (h.of-above.leads r.from r.to w.from w.to).holds (right-on (above_by W t r).on (leadsb above_width u r.from r.to) e) in
-        leads-above r w h.of-same (record { on = left-on (above_by W t r).on (leadsb above_width u r.from r.to) e; first = walk; second = walk })
+    ways : IsSomeAnd (straight f g) (Along (Coded codes) (Coded codes) (kind_above g)) ⊎ IsSomeAnd (turned f g) (Along (Coded codes) (Coded codes) (kind_above g)) → Meets (Coded codes) (Coded codes) f g
+    ways (inl l) = by_straight l
+    ways (inr l) = by_turned l
 
-    not_so : Along (Coded codes) (Coded codes) (kind_above g) r → opensb W t u r ≡ true
-    not_so l = both-on (above_by W t r).on (leadsb above_width u r.from r.to) (above-leads r w h.of-same l).on (decided (h.of-above.leads r.from r.to w.from w.to) l.above)
-
-meets-decides : {W : ℕ} {n : Counts} {f g : Fact} {codes t u : List ℕ} → Bounded n f → Bounded n g → Tables W n g codes t u → Decides (meetsb W t u f g) (Meets (Coded codes) (Coded codes) f g)
-meets-decides {f = f} {g = g} b d h = decides-either (opens-decides (straight f g) (straight-within b d) h) (opens-decides (turned f g) (turned-within b d) h)
+    back : Meets (Coded codes) (Coded codes) f g → IsSomeAnd (straight f g) (Along (Coded codes) (Coded codes) (kind_above g)) ⊎ IsSomeAnd (turned f g) (Along (Coded codes) (Coded codes) (kind_above g))
+    back (by_straight l) = inl l
+    back (by_turned l) = inr l
 
 -- ---- goals
 
-module _ {n : Counts} {f g : Fact} (b : Bounded n f) (d : Bounded n g) where
+module _ {n : Counts} (f : Option Fact) {g : Fact} (b : IfSome f (Bounded n)) (d : Bounded n g) where
   -- the steps above
   module _ {W : ℕ} {codes t : List ℕ} (h : Tabled W t kind.Same n.items codes) where
     above-reached : {U : Cell → Type 0} → Meets (Coded codes) U f g → Reached U (kind_above g) (above_goal W t f g)
-    above-reached (inl l) = inl (above-leads (straight f g) (straight-within b d) h l)
-    above-reached (inr l) = inr (above-leads (turned f g) (turned-within b d) h l)
+    above-reached {U} (by_straight l) = by_one (above-leads n U (kind_above g) h (straight f g) (straight-within f g b d) l)
+    above-reached {U} (by_turned l) = by_other (above-leads n U (kind_above g) h (turned f g) (turned-within f g b d) l)
 
     reached-above : {U : Cell → Type 0} → Reached U (kind_above g) (above_goal W t f g) → Meets (Coded codes) U f g
-    reached-above (inl l) = inl (leads-above (straight f g) (straight-within b d) h l)
-    reached-above (inr l) = inr (leads-above (turned f g) (turned-within b d) h l)
+    reached-above {U} (by_one l) = by_straight (leads-above n U (kind_above g) h (straight f g) (straight-within f g b d) l)
+    reached-above {U} (by_other l) = by_turned (leads-above n U (kind_above g) h (turned f g) (turned-within f g b d) l)
+
+    above-below : GoalBelow places_above (above_goal W t f g)
+    above-below = record { one = route-above (straight f g) (straight-within f g b d); other = route-above (turned f g) (turned-within f g b d) }
+      where
+        route-above : (r : Option Route) → IfSome r (Inside n) → OpenBelow places_above (above_by W t r)
+        route-above None w = tt
+        route-above (Some r) w = if-cond (WayBelow places_above) (up_way r) (alongb W t r.ends) (w.from, w.to, w.from, w.to)
 
   -- the steps of "same"
   module _ {codes t : List ℕ} (h : Tabled above_width t (kind_above g) places_above codes) where
     same-reached : {S : Cell → Type 0} → Meets S (Coded codes) f g → Reached S kind.Same (same_goal t f g)
-    same-reached (inl l) = inl (same-leads (straight f g) (straight-within b d) h l)
-    same-reached (inr l) = inr (same-leads (turned f g) (turned-within b d) h l)
+    same-reached {S} (by_straight l) = by_one (same-leads n S h (straight f g) (straight-within f g b d) l)
+    same-reached {S} (by_turned l) = by_other (same-leads n S h (turned f g) (turned-within f g b d) l)
 
     reached-same : {S : Cell → Type 0} → Reached S kind.Same (same_goal t f g) → Meets S (Coded codes) f g
-    reached-same (inl l) = inl (leads-same (straight f g) (straight-within b d) h l)
-    reached-same (inr l) = inr (leads-same (turned f g) (turned-within b d) h l)
+    reached-same {S} (by_one l) = by_straight (leads-same n S h (straight f g) (straight-within f g b d) l)
+    reached-same {S} (by_other l) = by_turned (leads-same n S h (turned f g) (turned-within f g b d) l)
+
+    same-below : GoalBelow n.items (same_goal t f g)
+    same-below = record { one = route-same (straight f g) (straight-within f g b d); other = route-same (turned f g) (turned-within f g b d) }
+      where
+        route-same : (r : Option Route) → IfSome r (Inside n) → OpenBelow n.items (same_by t r)
+        route-same None w = tt
+        route-same (Some r) w = if-cond (WayBelow n.items) r.ends (leadsb above_width t r.from r.to) w.ends
 
 -- ---- the searches
 
 module _ {W : ℕ} {n : Counts} {g : Fact} {codes : List ℕ} (w : Aimed W n g codes) where
   -- each number states a fact below the limits
-  bounded_at : (i : ℕ) → i < length codes → Bounded n (fact_at codes i)
-  bounded_at i h = fact-bounded (cell_at (get_or codes i 0)) w.fits (w.within (get_or codes i 0) (one_at codes i 0 h)) (omega (arith, w.bounded.first))
+  bounded_at : (i : ℕ) → i < length codes → IfSome (fact_at codes i) (Bounded n)
+  bounded_at i h = fact-bounded (cell_at (get_or codes i 0)) w.fits (w.within (get_or codes i 0) (one_at codes i 0 h))
 
   -- from one of them steps lead to the fact
   meets-somewhere : ((i : ℕ) → i < length codes → ¬ (Meets (Coded codes) (Coded codes) (fact_at codes i) g)) → ⊥
@@ -152,8 +232,8 @@ module _ {W : ℕ} {n : Counts} {g : Fact} {codes : List ℕ} (w : Aimed W n g c
   pub steps-above : StepsBelow (kind_above g) places_above codes
   steps-above = subst (λ (z : ℕ). StepsBelow (kind_above g) z codes) (places-above n g) (steps-below (kind_above g) w.fits w.within)
 
-  pub small_at : (i : ℕ) → i < length codes → Small W (fact_at codes i)
-  small_at i h = bounded-small w.fits (bounded_at i h)
+  pub small_at : (i : ℕ) → i < length codes → IfSome (fact_at codes i) (Small W)
+  small_at i h = bounded-any (fact_at codes i) w.fits (bounded_at i h)
 
   pub small-aim : Small W g
   small-aim = bounded-small w.fits w.bounded
@@ -163,15 +243,13 @@ module _ {W : ℕ} {n : Counts} {g : Fact} {codes : List ℕ} (w : Aimed W n g c
         → Wanted above_width (kind_above g) places_above (above_goal W t (fact_at codes i) g) codes u marks
     above-wanted l h m e =
         let b = bounded_at i low in
-        let one = straight-within b w.bounded in
-        let other = turned-within b w.bounded in
         record {
           lent = l;
           fit = omega arith;
           steps = steps-above;
-          goal = ((one.from, one.to, one.from, one.to), (other.from, other.to, other.from, other.to));
+          goal = above-below (fact_at codes i) b w.bounded h;
           few = w.few;
-          reached = above-reached b w.bounded h m;
+          reached = above-reached (fact_at codes i) b w.bounded h m;
           wide = e.wide;
           clear = e.clear;
         }
@@ -179,21 +257,19 @@ module _ {W : ℕ} {n : Counts} {g : Fact} {codes : List ℕ} (w : Aimed W n g c
     pub above-least : {t marks : List ℕ} → Tabled W t kind.Same n.items codes → Narrowest (kind_above g) (above_goal W t (fact_at codes i) g) codes marks → Above g codes marks i
     above-least h m =
         let b = bounded_at i low in
-        record { low = low; wide = m.wide; minimal = minimal_iff (λ xs p r. reached-above b w.bounded h r) (λ xs r. above-reached b w.bounded h r) m.minimal }
+        record { low = low; wide = m.wide; minimal = minimal_iff (λ xs p r. reached-above (fact_at codes i) b w.bounded h r) (λ xs r. above-reached (fact_at codes i) b w.bounded h r) m.minimal }
 
     pub same-wanted : {t u up marks : List ℕ} → Lent W u → Tabled above_width t (kind_above g) places_above (picked up codes) → Above g codes up i → Fresh marks
         → Wanted W kind.Same n.items (same_goal t (fact_at codes i) g) codes u marks
     same-wanted l h m e =
         let b = bounded_at i low in
-        let one = straight-within b w.bounded in
-        let other = turned-within b w.bounded in
         record {
           lent = l;
           fit = w.fits.items;
           steps = steps-below kind.Same w.fits w.within;
-          goal = ((one.a, one.b, one.c, one.d), (other.a, other.b, other.c, other.d));
+          goal = same-below (fact_at codes i) b w.bounded h;
           few = w.few;
-          reached = same-reached b w.bounded h m.minimal.enough;
+          reached = same-reached (fact_at codes i) b w.bounded h m.minimal.enough;
           wide = e.wide;
           clear = e.clear;
         }
@@ -201,7 +277,7 @@ module _ {W : ℕ} {n : Counts} {g : Fact} {codes : List ℕ} (w : Aimed W n g c
     pub same-least : {t up marks : List ℕ} → Tabled above_width t (kind_above g) places_above (picked up codes) → Narrowest kind.Same (same_goal t (fact_at codes i) g) codes marks → Beside g codes up marks i
     same-least h m =
         let b = bounded_at i low in
-        record { wide = m.wide; minimal = minimal_iff (λ xs p r. reached-same b w.bounded h r) (λ xs r. same-reached b w.bounded h r) m.minimal }
+        record { wide = m.wide; minimal = minimal_iff (λ xs p r. reached-same (fact_at codes i) b w.bounded h r) (λ xs r. same-reached (fact_at codes i) b w.bounded h r) m.minimal }
 
 -- ---- the first statement from which steps lead to the fact
 
@@ -210,9 +286,9 @@ abbrev pub Unmet : Fact → List ℕ → ℕ → Type 0
 Unmet g codes i = (j : ℕ) → j < i → ¬ (Meets (Coded codes) (Coded codes) (fact_at codes j) g)
 
 module _ {W : ℕ} {g : Fact} {codes same above : List ℕ} (w : Sighted W g codes same above) where
-  module _ (i : ℕ) (low : i < length codes) {f : Fact} {b : Bool} (is : f ≡ fact_at codes i) (told : b ≡ meetsb W same above f g) where
+  module _ (i : ℕ) (low : i < length codes) {f : Option Fact} {b : Bool} (is : f ≡ fact_at codes i) (told : b ≡ meetsb W same above f g) where
     sighted : Decides b (Meets (Coded codes) (Coded codes) (fact_at codes i) g)
-    sighted = rw (told, is) (meets-decides (bounded_at w.aimed i low) w.aimed.bounded w.tables)
+    sighted = rw (told, is) (meets-decides (fact_at codes i) (bounded_at w.aimed i low) w.aimed.bounded w.tables)
 
     pub unmet-more : Unmet g codes i → b ≡ false → Unmet g codes (i + 1)
     unmet-more f e j h m = by (dec_lt j i)

@@ -1,7 +1,6 @@
 -- From the searches' results to a reason for the cell. Assumes nothing.
-use Rattle.std.specs.Prelude.{◌≡◌, refl, Bool, true, false, List, ℕ, ◌<◌}
-use Rattle.std.proofs.Common.{sym, inl, inr, arith, mul-le-mul, mul-le-mul_left}
-use Rattle.std.proofs.lemmas.Bool.{false≢true}
+use Rattle.std.specs.Prelude.{◌≡◌, Bool, true, false, Option, Some, IfSome, List, ℕ, ◌<◌}
+use Rattle.std.proofs.Common.{sym, subst, arith, mul-le-mul, mul-le-mul_left}
 use Rattle.store.specs.declared.Counts.{Counts}
 use Rattle.store.specs.Cell.{Cell, Within}
 use Rattle.store.specs.Cell.Cell.{Same, Under, RoleUnder, In, Link}
@@ -13,11 +12,12 @@ use Rattle.reason.specs.declared.Kind.TheVariants as kind
 use Rattle.reason.specs.own.Aim.{Above, Aimed, Beside, Bounded, Joined, Reaches, places_of, plain_goal, row_of}
 use Rattle.reason.specs.own.Code.{AllWithin, Coded}
 use Rattle.reason.specs.own.Code.Coded.{coded}
-use Rattle.reason.specs.own.Fact.{Ties, above_width, fact_of, places_above}
+use Rattle.reason.specs.own.Fact.{Found, above_width, fact_of, places_above}
 use Rattle.reason.specs.Part.{Part}
 use Rattle.reason.specs.own.Promise.{FollowsCoded, Lent, Reasoned, Sought}
 use Rattle.reason.specs.own.Seek.{Narrowest, Wanted}
 use Rattle.reason.specs.own.Walk.{Reached, Walk, node}
+use Rattle.reason.specs.own.Walk.Reached.{by_one, by_other}
 use Rattle.reason.specs.laws.Aim.{fact-bounded, places-fit, steps-below}
 use Rattle.reason.specs.laws.Found.{found-follows, follows-found, follows-says}
 use Rattle.reason.specs.laws.Part.{part-one}
@@ -50,6 +50,10 @@ lent_by : {W : ℕ} {t : List ℕ} (k : Kind) → 0 < W → Lent W t → Lent (r
 lent_by kind.Same h l = l
 lent_by kind.Under h l = lent-above h l
 lent_by kind.Role h l = lent-above h l
+
+-- a value that an option is
+some-is : {A : Type 0} (P : A → Type 0) {x : A} (o : Option A) → o ≡ Some x → IfSome o P → P x
+some-is {A} P o e p = subst (λ (z : Option A). IfSome z P) e p
 
 -- ---- cells that steps of one kind lead to
 
@@ -98,9 +102,9 @@ module _ {W : ℕ} {n : Counts} {codes table marks : List ℕ} where
         lent = lent_by k s.some s.lent;
         fit = places-fit n k s.fits;
         steps = steps-below k s.fits s.within;
-        goal = ((p.from-below, p.to_below, p.from-below, p.to_below), (p.from-below, p.to_below, p.from-below, p.to_below));
+        goal = record { one = (p.from-below, p.to_below, p.from-below, p.to_below); other = tt };
         few = s.few;
-        reached = inl (record { on = refl; first = w; second = w });
+        reached = by_one (record { first = w; second = w });
         wide = s.wide;
         clear = s.clear;
       }
@@ -108,34 +112,34 @@ module _ {W : ℕ} {n : Counts} {codes table marks : List ℕ} where
   pub plain-reasoned : {c : Cell} {k : Kind} {x y : ℕ} {after : List ℕ} → Sought W n c codes table marks → Plain n c k x y → Narrowest k (plain_goal x y) codes after → Reasoned n c codes after
   plain-reasoned {c} {k} {x} {y} s p m = record {
     wide = m.wide;
-    minimal = minimal_iff (λ xs q r. p.follows xs (part-within n q s.within) (walk r)) (λ xs f. let w = p.walks xs f in inl (record { on = refl; first = w; second = w })) m.minimal;
+    minimal = minimal_iff (λ xs q r. p.follows xs (part-within n q s.within) (walk r)) (λ xs f. let w = p.walks xs f in by_one (record { first = w; second = w })) m.minimal;
   }
     where
       walk : {G : Cell → Type 0} → Reached G k (plain_goal x y) → Walk G k x y
-      walk (inl l) = l.first
-      walk (inr l) = absurd (false≢true l.on)
+      walk (by_one l) = l.first
+      walk (by_other l) = absurd l
 
   -- ---- facts
 
-  pub aimed-of : {c : Cell} → Sought W n c codes table marks → Ties c → Aimed W n (fact_of c) codes
-  aimed-of {c} s t = record { fits = s.fits; within = s.within; few = s.few; ties = t; bounded = bounded c t (follows-within s.within s.follows); found = follows-found c t s.follows }
-    where
-      bounded : (c : Cell) → Ties c → Within n c → Bounded n (fact_of c)
-      bounded (Same a b) t h = absurd (t refl)
-      bounded (Under a b) t h = absurd (t refl)
-      bounded (RoleUnder a u b) t h = absurd (t refl)
-      bounded (In a b) t h = fact-bounded (In a b) s.fits h (omega (arith, h.0))
-      bounded (Link r a b) t h = fact-bounded (Link r a b) s.fits h (omega (arith, h.1))
+  pub aimed-of : {c : Cell} {g : Fact} → Sought W n c codes table marks → fact_of c ≡ Some g → Aimed W n g codes
+  aimed-of {c} {g} s e =
+      record {
+        fits = s.fits;
+        within = s.within;
+        few = s.few;
+        bounded = some-is (Bounded n) (fact_of c) e (fact-bounded c s.fits (follows-within s.within s.follows));
+        found = some-is (Found (Coded codes)) (fact_of c) e (follows-found c s.follows);
+      }
 
-  pub fact-reasoned : {c : Cell} {after : List ℕ} → Sought W n c codes table marks → Ties c → Reaches (fact_of c) codes after → Reasoned n c codes after
-  fact-reasoned {c} s t m = record {
+  pub fact-reasoned : {c : Cell} {g : Fact} {after : List ℕ} → Sought W n c codes table marks → fact_of c ≡ Some g → Reaches g codes after → Reasoned n c codes after
+  fact-reasoned {c} {g} s e m = record {
     wide = m.wide;
-    minimal = minimal_iff (λ xs q f. found-follows s.fits (coded-within n (part-within n q s.within)) c t (follows-within s.within s.follows) f) (λ xs f. follows-found c t f) m.minimal;
+    minimal = minimal_iff (λ xs q f. some-is (λ h. Found (Coded xs) h → FollowsCoded n c xs) (fact_of c) e (found-follows s.fits (coded-within n (part-within n q s.within)) c (follows-within s.within s.follows)) f) (λ xs f. some-is (Found (Coded xs)) (fact_of c) e (follows-found c f)) m.minimal;
   }
 
 -- the three parts of a reason for a fact, together
 pub joined-reaches : {W : ℕ} {n : Counts} {g : Fact} {codes up along after : List ℕ} {i : ℕ} → Aimed W n g codes → Above g codes up i → Beside g codes up along i → Joined up along i after → Reaches g codes after
 joined-reaches {codes = codes} {up = up} {along = along} {after = after} {i = i} w a b j = record {
   wide = j.wide;
-  minimal = union-minimal (row_hasb up) (row_hasb along) (row_hasb after) w.ties (placed_at codes 0 i i 0 a.low (omega arith)) a.minimal b.minimal j.joins;
+  minimal = union-minimal (row_hasb up) (row_hasb along) (row_hasb after) (placed_at codes 0 i i 0 a.low (omega arith)) a.minimal b.minimal j.joins;
 }

@@ -1,22 +1,23 @@
 -- A statement from which steps lead to a fact, minimal steps above and minimal steps of "same": together they are minimal. Assumes nothing.
-use Rattle.std.specs.Prelude.{◌≡◌, refl, ◌⊎◌, Bool, true, false, cond, List, ℕ, eqb}
-use Rattle.std.proofs.Common.{sym, ◌∙◌, subst, inl, inr, ⊎_elim, arith, eqb-true}
+use Rattle.std.specs.Prelude.{◌≡◌, refl, ◌⊎◌, Bool, true, false, Option, Some, None, IsSomeAnd, List, ℕ}
+use Rattle.std.proofs.Common.{sym, ◌∙◌, subst, inl, inr}
 use Rattle.store.specs.Cell.{Cell}
 use Rattle.store.specs.Cell.Cell.{Same, Under, RoleUnder, In, Link}
 use Rattle.reason.specs.declared.Fact.{Fact}
+use Rattle.reason.specs.declared.Fact.TheVariants as fact
 use Rattle.reason.specs.declared.Kind.{Kind}
 use Rattle.reason.specs.declared.Kind.TheVariants as kind
 use Rattle.reason.specs.declared.Route.{Route}
 use Rattle.reason.specs.own.Aim.{Joins}
 use Rattle.reason.specs.own.Code.{Coded, cell_at}
 use Rattle.reason.specs.own.Code.Coded.{coded}
-use Rattle.reason.specs.own.Fact.{Along, Found, Meets, fact_of, kind_above}
+use Rattle.reason.specs.own.Fact.{Along, Found, Meets, fact_of, kind_above, straight, turned}
+use Rattle.reason.specs.own.Fact.Meets.{by_straight, by_turned}
 use Rattle.reason.specs.own.Grows.{Grows}
 use Rattle.reason.specs.Part.{Minimal}
 use Rattle.reason.specs.own.Picked.{picked_from}
 use Rattle.reason.specs.own.Walk.{CellStep}
 use Rattle.reason.specs.own.Walk.CellStep.{same, same_back, under, role, role-turned}
-use Rattle.reason.specs.laws.Flag.{left-on}
 use Rattle.reason.specs.laws.Part.{part-one}
 use Rattle.reason.specs.laws.Picked.{picked-part}
 use Rattle.reason.specs.laws.Place.{Placed, minimal-by-place, needed-at, off, off-on, off-other, picked-one, picked-place, placed_same}
@@ -41,19 +42,16 @@ step-kind role = refl
 step-kind role-turned = refl
 
 -- a cell that has a step states no fact
-step-sort : {k : Kind} {c : Cell} {x y : ℕ} → CellStep k c x y → (fact_of c).sort ≡ 0
-step-sort same = refl
-step-sort same_back = refl
-step-sort under = refl
-step-sort role = refl
-step-sort role-turned = refl
+step-none : {k : Kind} {c : Cell} {x y : ℕ} → CellStep k c x y → fact_of c ≡ None
+step-none same = refl
+step-none same_back = refl
+step-none under = refl
+step-none role = refl
+step-none role-turned = refl
 
 above_other : (g : Fact) → kind_above g ≡ kind.Same → ⊥
-above_other g = go (eqb g.sort 1)
-  where
-    go : (b : Bool) → cond b kind.Under kind.Role ≡ kind.Same → ⊥
-    go true e = let z : ◌≡◌ {A = ℕ} 0 1 = cc in omega arith
-    go false e = let z : ◌≡◌ {A = ℕ} 0 1 = cc in omega arith
+above_other (fact.Member a b) e = cc
+above_other (fact.Link r a b) e = cc
 
 -- ---- steps lead from fact to fact, with other cells given
 
@@ -66,18 +64,22 @@ abbrev pub Stepwise : Kind → (List ℕ → Type 0) → Type 0
 Stepwise k Enough = (xs ys : List ℕ) → StepsIn k xs ys → Enough xs → Enough ys
 
 module _ {S S' U U' : List ℕ} where
-  along-by : {k : Kind} {r : Route} → StepsIn kind.Same S S' → StepsIn k U U' → Along (Coded S) (Coded U) k r → Along (Coded S') (Coded U') k r
-  along-by f g l = record { on = l.on; above = walk-by g l.above; first = walk-by f l.first; second = walk-by f l.second }
+  along-by : {k : Kind} (r : Option Route) → StepsIn kind.Same S S' → StepsIn k U U' → IsSomeAnd r (Along (Coded S) (Coded U) k) → IsSomeAnd r (Along (Coded S') (Coded U') k)
+  along-by None f g l = l
+  along-by (Some r) f g l = record { above = walk-by g l.above; first = walk-by f l.first; second = walk-by f l.second }
 
-  meets-by : (f g : Fact) → StepsIn kind.Same S S' → StepsIn (kind_above g) U U' → Meets (Coded S) (Coded U) f g → Meets (Coded S') (Coded U') f g
-  meets-by f g s u = ⊎_elim (λ l. inl (along-by s u l)) (λ l. inr (along-by s u l))
+  meets-by : (f : Option Fact) (g : Fact) → StepsIn kind.Same S S' → StepsIn (kind_above g) U U' → Meets (Coded S) (Coded U) f g → Meets (Coded S') (Coded U') f g
+  meets-by f g s u (by_straight l) = by_straight (along-by (straight f g) s u l)
+  meets-by f g s u (by_turned l) = by_turned (along-by (turned f g) s u l)
 
 found-grows : (g : Fact) → Grows (λ ls. Found (Coded ls) g)
 found-grows g xs ys f w = record { cell = w.cell; has = coded-more f w.cell w.has; meets = meets-by (fact_of w.cell) g (λ c u v h s. coded-more f c h) (λ c u v h s. coded-more f c h) w.meets }
 
-meets-sort : {S U : Cell → Type 0} (f g : Fact) → Meets S U f g → f.sort ≡ g.sort
-meets-sort f g (inl l) = eqb-true f.sort g.sort l.on
-meets-sort f g (inr l) = eqb-true f.sort g.sort (left-on (eqb f.sort g.sort) (eqb g.sort 2) l.on)
+-- steps lead from nothing but a fact
+meets-none : {S U : Cell → Type 0} (f : Option Fact) (g : Fact) → Meets S U f g → f ≡ None → ⊥
+meets-none None g (by_straight l) e = l
+meets-none None g (by_turned l) e = l
+meets-none (Some f) g l e = cc
 
 -- ---- what a search of one kind marks
 
@@ -96,7 +98,6 @@ marked-steps {k} {Enough} {codes} {x} {j} m by w p e none = needed-at m w p e (b
 
 module _
     {g : Fact} {codes : List ℕ} {x n : ℕ} (up along m : ℕ → Bool)
-    (ties : g.sort ≡ 0 → ⊥)
     (placed : Placed x n 0 codes)
     (least-up : Minimal (λ ls. Meets (Coded codes) (Coded ls) (fact_of (cell_at x)) g) codes (picked_from up 0 codes))
     (least-along : Minimal (λ ls. Meets (Coded ls) (Coded (picked_from up 0 codes)) (fact_of (cell_at x)) g) codes (picked_from along 0 codes))
@@ -108,8 +109,8 @@ module _
   along-steps xs ys f = meets-by (fact_of (cell_at x)) g f (λ c u v h s. h)
 
   -- the statement at n has no step
-  first-sort : (fact_of (cell_at x)).sort ≡ 0 → ⊥
-  first-sort e = ties (sym (meets-sort (fact_of (cell_at x)) g least-up.enough) ∙ e)
+  first-fact : fact_of (cell_at x) ≡ None → ⊥
+  first-fact e = meets-none (fact_of (cell_at x)) g least-up.enough e
 
   -- a marked statement that has a step is marked by the search of its kind
   step-up : (y i u v : ℕ) → Placed y i 0 codes → m i ≡ true → CellStep (kind_above g) (cell_at y) u v → up i ≡ true
@@ -118,7 +119,7 @@ module _
       by : (up i ≡ true) ⊎ ((along i ≡ true) ⊎ (i ≡ n)) → up i ≡ true
       by (inl q) = q
       by (inr (inl q)) = absurd (marked-steps along along-steps least-along p q (λ a b t. above_other g (step-kind s ∙ sym (step-kind t))))
-      by (inr (inr q)) = absurd (first-sort (subst (λ (t : ℕ). (fact_of (cell_at t)).sort ≡ 0) (placed_same (subst (λ (t : ℕ). Placed y t 0 codes) q p) placed) (step-sort s)))
+      by (inr (inr q)) = absurd (first-fact (subst (λ (t : ℕ). fact_of (cell_at t) ≡ None) (placed_same (subst (λ (t : ℕ). Placed y t 0 codes) q p) placed) (step-none s)))
 
   step-along : (y i u v : ℕ) → Placed y i 0 codes → m i ≡ true → CellStep kind.Same (cell_at y) u v → along i ≡ true
   step-along y i u v p e s = by (joins.only i e)
@@ -126,15 +127,15 @@ module _
       by : (up i ≡ true) ⊎ ((along i ≡ true) ⊎ (i ≡ n)) → along i ≡ true
       by (inl q) = absurd (marked-steps up up-steps least-up p q (λ a b t. above_other g (step-kind t ∙ sym (step-kind s))))
       by (inr (inl q)) = q
-      by (inr (inr q)) = absurd (first-sort (subst (λ (t : ℕ). (fact_of (cell_at t)).sort ≡ 0) (placed_same (subst (λ (t : ℕ). Placed y t 0 codes) q p) placed) (step-sort s)))
+      by (inr (inr q)) = absurd (first-fact (subst (λ (t : ℕ). fact_of (cell_at t) ≡ None) (placed_same (subst (λ (t : ℕ). Placed y t 0 codes) q p) placed) (step-none s)))
 
   -- a marked statement that states a fact is the one at n
-  fact-first : (y i : ℕ) → Placed y i 0 codes → m i ≡ true → ((fact_of (cell_at y)).sort ≡ 0 → ⊥) → i ≡ n
+  fact-first : (y i : ℕ) → Placed y i 0 codes → m i ≡ true → (fact_of (cell_at y) ≡ None → ⊥) → i ≡ n
   fact-first y i p e h = by (joins.only i e)
     where
       by : (up i ≡ true) ⊎ ((along i ≡ true) ⊎ (i ≡ n)) → i ≡ n
-      by (inl q) = absurd (marked-steps up up-steps least-up p q (λ u v s. h (step-sort s)))
-      by (inr (inl q)) = absurd (marked-steps along along-steps least-along p q (λ u v s. h (step-sort s)))
+      by (inl q) = absurd (marked-steps up up-steps least-up p q (λ u v s. h (step-none s)))
+      by (inr (inl q)) = absurd (marked-steps along along-steps least-along p q (λ u v s. h (step-none s)))
       by (inr (inr q)) = q
 
   union-enough : Found (Coded (picked_from m 0 codes)) g
@@ -181,7 +182,7 @@ module _
         start c (coded {k = t} o) w =
             let z = picked-place (off m j) 0 codes t o in
             let q = off-on m j z.0 z.2 in
-            let i : z.0 ≡ n = fact-first t z.0 z.1 q.0 (λ s. ties (sym (meets-sort (fact_of (cell_at t)) g w) ∙ s)) in
+            let i : z.0 ≡ n = fact-first t z.0 z.1 q.0 (λ s. meets-none (fact_of (cell_at t)) g w s) in
             let s : t ≡ x = placed_same (subst (λ (a : ℕ). Placed t a 0 codes) i z.1) placed in
             by (λ r. q.1 (i ∙ sym r)) (subst (λ (a : ℕ). Meets (Coded (picked_from (off m j) 0 codes)) (Coded (picked_from (off m j) 0 codes)) (fact_of (cell_at a)) g) s w) (joins.only j e)
 

@@ -1,5 +1,5 @@
 -- The search for a reason of a fact, step by step.
-use Rattle.std.specs.Prelude.{◌≡◌, ◌⊎◌, Bool, true, false, ◌&&◌, ◌||◌, List, ℕ, ◌*◌, ◌≤◌, ◌<◌, length, get_or}
+use Rattle.std.specs.Prelude.{◌≡◌, ◌⊎◌, Bool, true, false, cond, ◌&&◌, ◌||◌, Option, Some, None, List, ℕ, ◌*◌, ◌≤◌, ◌<◌, length, get_or}
 use Rattle.row.specs.own.Row.{row_hasb}
 use Rattle.store.specs.declared.Counts.{Counts}
 use Rattle.store.specs.Layout.{Fits, concept_limit, item_limit}
@@ -10,11 +10,12 @@ use Rattle.reason.specs.declared.Kind.TheVariants as kind
 use Rattle.reason.specs.declared.Route.{Route}
 use Rattle.reason.specs.declared.Way.{Way}
 use Rattle.reason.specs.own.Code.{AllWithin, Coded, cell_at}
-use Rattle.reason.specs.own.Fact.{Found, Meets, above_width, fact_of, kind_above, places_above, straight, turned}
+use Rattle.reason.specs.own.Fact.{Found, Meets, above_width, fact_above, fact_first, fact_of, fact_second, kind_above, places_above, straight, turned}
 use Rattle.reason.specs.Part.{Minimal}
 use Rattle.reason.specs.own.Picked.{mark_words, picked}
 use Rattle.reason.specs.own.Promise.{Clear}
-use Rattle.reason.specs.own.Seek.{Tabled, leadsb}
+use Rattle.reason.specs.own.Seek.{Tabled, WayBelow, leadsb}
+use Rattle.reason.specs.own.Steps.{alongb}
 use Rattle.store.specs.Cell.{DeclaredItem}
 
 -- the places between which steps of a kind lead
@@ -31,61 +32,66 @@ row_of W kind.Role = above_width
 
 -- the goal that steps lead from x to y
 abbrev pub plain_goal : ℕ → ℕ → Goal
-plain_goal x y = record { one = record { on = true; a = x; b = y; c = x; d = y }; other = record { on = false; a = x; b = y; c = x; d = y } }
+plain_goal x y = record { one = Some (record { a = x; b = y; c = x; d = y }); other = None }
 
 -- the way above of a route, open if the route is and its steps of "same" are in the table
-abbrev pub above_by : ℕ → List ℕ → Route → Way
-above_by W t r = record { on = r.on && (leadsb W t r.a r.b && leadsb W t r.c r.d); a = r.from; b = r.to; c = r.from; d = r.to }
+abbrev pub above_by : ℕ → List ℕ → Option Route → Option Way
+above_by W t None = None
+above_by W t (Some r) = cond (alongb W t r.ends) (Some (record { a = r.from; b = r.to; c = r.from; d = r.to })) None
 
 -- the way of "same" of a route, open if the route is and its steps above are in the table
-abbrev pub same_by : List ℕ → Route → Way
-same_by t r = record { on = r.on && leadsb above_width t r.from r.to; a = r.a; b = r.b; c = r.c; d = r.d }
+abbrev pub same_by : List ℕ → Option Route → Option Way
+same_by t None = None
+same_by t (Some r) = cond (leadsb above_width t r.from r.to) (Some r.ends) None
 
 -- the steps above that lead from the fact f to g
-abbrev pub above_goal : ℕ → List ℕ → Fact → Fact → Goal
+abbrev pub above_goal : ℕ → List ℕ → Option Fact → Fact → Goal
 above_goal W t f g = record { one = above_by W t (straight f g); other = above_by W t (turned f g) }
 
 -- the steps of "same" that lead from the fact f to g
-abbrev pub same_goal : List ℕ → Fact → Fact → Goal
+abbrev pub same_goal : List ℕ → Option Fact → Fact → Goal
 same_goal t f g = record { one = same_by t (straight f g); other = same_by t (turned f g) }
 
 -- whether steps lead along a route, by the tables of "same" and of the steps above
-abbrev pub opensb : ℕ → List ℕ → List ℕ → Route → Bool
-opensb W t u r = (above_by W t r).on && leadsb above_width u r.from r.to
+abbrev pub opensb : ℕ → List ℕ → List ℕ → Option Route → Bool
+opensb W t u None = false
+opensb W t u (Some r) = alongb W t r.ends && leadsb above_width u r.from r.to
 
 -- whether steps lead from one fact to another, by the tables
-abbrev pub meetsb : ℕ → List ℕ → List ℕ → Fact → Fact → Bool
+abbrev pub meetsb : ℕ → List ℕ → List ℕ → Option Fact → Fact → Bool
 meetsb W t u f g = opensb W t u (straight f g) || opensb W t u (turned f g)
+
+-- what is above a fact is below the limit
+abbrev pub Raised : Fact → Type 0
+Raised f = fact_above f < concept_limit
 
 -- the numbers of a fact are below the limits
 pub record Small (W : ℕ) (f : Fact) : Type 0 where
-  pub above : f.above < concept_limit
-  pub first : f.first < item_limit W
-  pub second : f.second < item_limit W
+  pub above : Raised f
+  pub first : fact_first f < item_limit W
+  pub second : fact_second f < item_limit W
+
+-- the ends above of a route are below the limit
+pub record Rising (r : Route) : Type 0 where
+  pub from : r.from < item_limit above_width
+  pub to : r.to < item_limit above_width
 
 -- the numbers of a route are below the limits
 pub record Near (W : ℕ) (r : Route) : Type 0 where
-  pub from : r.from < item_limit above_width
-  pub to : r.to < item_limit above_width
-  pub a : r.a < item_limit W
-  pub b : r.b < item_limit W
-  pub c : r.c < item_limit W
-  pub d : r.d < item_limit W
+  pub rising : Rising r
+  pub ends : WayBelow (item_limit W) r.ends
 
 -- the numbers of a fact are below the counts or the limits
 pub record Bounded (n : Counts) (f : Fact) : Type 0 where
-  pub above : f.above < concept_limit
-  pub first : DeclaredItem n f.first
-  pub second : DeclaredItem n f.second
+  pub above : Raised f
+  pub first : DeclaredItem n (fact_first f)
+  pub second : DeclaredItem n (fact_second f)
 
 -- the numbers of a route are below the counts or the limits
 pub record Inside (n : Counts) (r : Route) : Type 0 where
   pub from : r.from < places_above
   pub to : r.to < places_above
-  pub a : DeclaredItem n r.a
-  pub b : DeclaredItem n r.b
-  pub c : DeclaredItem n r.c
-  pub d : DeclaredItem n r.d
+  pub ends : WayBelow n.items r.ends
 
 -- the two tables say where steps lead: those of "same" and those above g
 pub record Tables (W : ℕ) (n : Counts) (g : Fact) (codes same above : List ℕ) : Type 0 where
@@ -97,12 +103,11 @@ pub record Aimed (W : ℕ) (n : Counts) (g : Fact) (codes : List ℕ) : Type 0 w
   pub fits : Fits W n
   pub within : AllWithin n codes
   pub few : length codes ≤ 64 * mark_words
-  pub ties : g.sort ≡ 0 → ⊥
   pub bounded : Bounded n g
   pub found : Found (Coded codes) g
 
--- the fact that the number at a place states
-abbrev pub fact_at : List ℕ → ℕ → Fact
+-- the fact that the number at a place states, if it states one
+abbrev pub fact_at : List ℕ → ℕ → Option Fact
 fact_at codes i = fact_of (cell_at (get_or codes i 0))
 
 -- steps lead from the fact at the place i to g

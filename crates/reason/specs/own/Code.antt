@@ -14,11 +14,6 @@ cell_by k a b r = cond (eqb k 0) (Same a b) (cond (eqb k 1) (Under a b) (cond (e
 unfoldable pub cell_at : ℕ → Cell
 cell_at k = cell_by (k % 8) (k / 8 % 512) (k / 4096 % 512) (k / 2097152)
 
--- the kind of a step from role to role, by its sign
-abbrev pub role_kind : Bool → ℕ
-role_kind false = 2
-role_kind true = 3
-
 -- the cells that the numbers state
 pub data Coded (codes : List ℕ) : Cell → Type 0 where
   coded : {k : ℕ} → One k codes → Coded codes (cell_at k)

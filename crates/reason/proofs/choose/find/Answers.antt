@@ -1,10 +1,7 @@
 -- `reason::choose::find` meets its contract: from no statement passed steps lead to the fact. Assumes nothing.
-use native.Mathlib.Omega.{arith}
+use Rattle.std.proofs.Common.{arith}
 use Rattle.reason.specs.laws.Aim.{met, small-aim, small_at, unmet-more, unmet-never}
 use Rattle.reason.proofs.choose.find.Goals as goal
-
-pub loop-i-init : goal.loop-i-init
-loop-i-init c = (omega arith, λ j h m. omega arith)
 
 pub meets-requires : goal.meets-requires
 meets-requires c = (c.requires.tables.of-same.lent, c.requires.tables.of-above.lent, rw c.fact_at.ensures (small_at c.requires.aimed c.loop-i.i (omega arith)), small-aim c.requires.aimed)
@@ -13,7 +10,7 @@ pub returns-then-meets : goal.returns-then-meets
 returns-then-meets c = met c.requires c.loop-i.i (omega arith) c.fact_at.ensures c.meets.ensures c.if-meets.true
 
 pub loop-i-preserved : goal.loop-i-preserved
-loop-i-preserved c = (omega arith, unmet-more c.requires c.loop-i.i (omega arith) c.fact_at.ensures c.meets.ensures c.loop-i.invariant.1 c.if-meets.false)
+loop-i-preserved c = unmet-more c.requires c.loop-i.i (omega arith) c.fact_at.ensures c.meets.ensures c.loop-i.invariant c.if-meets.false
 
 pub returns : goal.returns
-returns c = absurd (unmet-never c.requires {i = c.loop-i.i} (omega arith) c.loop-i.invariant.1)
+returns c = absurd (unmet-never c.requires {i = c.loop-i.i} (omega arith) c.loop-i.invariant)

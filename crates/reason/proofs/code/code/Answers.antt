@@ -1,7 +1,6 @@
 -- `reason::code::code` meets its contract: each kind of statement has its number. Assumes nothing.
-use mathlib.Core.Path.{◌∙◌}
-use native.Mathlib.Omega.{arith}
-use Rattle.reason.specs.laws.Code.{cell-number, cell-role, role-kind-small}
+use Rattle.std.proofs.Common.{arith}
+use Rattle.reason.specs.laws.Code.{cell-number}
 use Rattle.reason.proofs.code.code.Goals as goal
 
 pub number-requires : goal.number-requires
@@ -10,8 +9,11 @@ number-requires c = let p = rw c.in-Same.is at c.requires in (omega arith, p.0, 
 pub number-requires-in-Under : goal.number-requires-in-Under
 number-requires-in-Under c = let p = rw c.in-Under.is at c.requires in (omega arith, p.0, p.1, omega arith)
 
-pub number-requires-in-RoleUnder : goal.number-requires-in-RoleUnder
-number-requires-in-RoleUnder c = let p = rw c.in-RoleUnder.is at c.requires in (role-kind-small c.in-RoleUnder.u c.role_kind.ensures, p.0, p.1, omega arith)
+pub number-requires-then-u : goal.number-requires-then-u
+number-requires-then-u c = let p = rw c.in-RoleUnder.is at c.requires in (omega arith, p.0, p.1, omega arith)
+
+pub number-requires-else-u : goal.number-requires-else-u
+number-requires-else-u c = let p = rw c.in-RoleUnder.is at c.requires in (omega arith, p.0, p.1, omega arith)
 
 pub number-requires-in-In : goal.number-requires-in-In
 number-requires-in-In c = let p = rw c.in-In.is at c.requires in (omega arith, p.0, p.1, omega arith)
@@ -25,11 +27,14 @@ returns-in-Same c = let p = rw c.in-Same.is at c.requires in rw c.in-Same.is (ce
 pub returns-in-Under : goal.returns-in-Under
 returns-in-Under c = let p = rw c.in-Under.is at c.requires in rw c.in-Under.is (cell-number _ 1 _ _ 0 (omega arith) p.0 p.1 c.number-in-Under.ensures)
 
-pub returns-in-RoleUnder : goal.returns-in-RoleUnder
-returns-in-RoleUnder c = let p = rw c.in-RoleUnder.is at c.requires in let u = c.in-RoleUnder.u in rw c.in-RoleUnder.is (cell-number _ _ _ _ 0 (role-kind-small u c.role_kind.ensures) p.0 p.1 c.number-in-RoleUnder.ensures ∙ cell-role u _ _ 0 c.role_kind.ensures)
-
 pub returns-in-In : goal.returns-in-In
 returns-in-In c = let p = rw c.in-In.is at c.requires in rw c.in-In.is (cell-number _ 4 _ _ 0 (omega arith) p.0 p.1 c.number-in-In.ensures)
 
 pub returns-in-Link : goal.returns-in-Link
 returns-in-Link c = let p = rw c.in-Link.is at c.requires in rw c.in-Link.is (cell-number _ 5 _ _ _ (omega arith) p.1 p.2 c.number-in-Link.ensures)
+
+pub returns-then-u : goal.returns-then-u
+returns-then-u c = let p = rw c.in-RoleUnder.is at c.requires in rw (c.in-RoleUnder.is, c.if-u.true) (cell-number _ 3 _ _ 0 (omega arith) p.0 p.1 c.number-then-u.ensures)
+
+pub returns-else-u : goal.returns-else-u
+returns-else-u c = let p = rw c.in-RoleUnder.is at c.requires in rw (c.in-RoleUnder.is, c.if-u.false) (cell-number _ 2 _ _ 0 (omega arith) p.0 p.1 c.number-else-u.ensures)
