@@ -7,10 +7,7 @@ ghost use Rattle.row.specs.own.Pick.{room};
 pub fn word_below(w: u64, n: usize) -> bool
     ensures { Decides result (WordBelow w n) }
 {
-    if n >= 64 {
-        return true;
-    }
-    w >> (n as u64) == 0
+    n >= 64 || w >> (n as u64) == 0
 }
 
 // Whether every bit of the row at `at` is below n.
@@ -18,14 +15,12 @@ pub fn row_below(s: &[u64], at: usize, width: usize, n: usize) -> bool
     requires { at + width ≤ length s.now }
     ensures { Decides result (RowBelow s.now at width n) }
 {
-    let mut h = 0;
     let mut left = n;
-    while h < width {
+    for h in 0..width {
         if !word_below(s[at + h], left) {
             return false;
         }
-        left = row::number::after_word(left);
-        h += 1;
+        left = left.saturating_sub(64);
     }
     true
 }
@@ -42,15 +37,11 @@ pub fn rows_below(
     requires { from + count * width ≤ length s.now }
     ensures { Decides result (RowsBelow s.now from count width rows bits) }
 {
-    let mut x = 0;
-    let mut at = from;
-    while x < count {
-        let n = row::number::only_if(x < rows, bits);
-        if !row_below(s, at, width, n) {
+    for x in 0..count {
+        let n = if x < rows { bits } else { 0 };
+        if !row_below(s, from + x * width, width, n) {
             return false;
         }
-        x += 1;
-        at += width;
     }
     true
 }
@@ -68,15 +59,11 @@ pub fn blocks_below(
     ensures { Decides result (BlocksBelow s.now from blocks width used n) }
 {
     let count = 64 * width;
-    let mut r = 0;
-    let mut at = from;
-    while r < blocks {
-        let rows = row::number::only_if(r < used, n);
-        if !rows_below(s, at, count, width, rows, n) {
+    for r in 0..blocks {
+        let rows = if r < used { n } else { 0 };
+        if !rows_below(s, from + r * (count * width), count, width, rows, n) {
             return false;
         }
-        r += 1;
-        at += count * width;
     }
     true
 }

@@ -1,6 +1,5 @@
-ghost use Rattle.std.specs.Prelude.{◌≡◌, Bool, true, ℕ, ◌+◌, ◌*◌, ◌/◌, ◌≤◌, length};
+ghost use Rattle.std.specs.Prelude.{◌+◌, ◌*◌, ◌/◌, ◌≤◌, length};
 ghost use Rattle.logic.specs.own.Decides.{Decides};
-ghost use Rattle.row.specs.Bit.{Has};
 ghost use Rattle.inspect.specs.own.Test.{AllSpread, BlocksPart, Includes, Reflexive, RowPart, RowsInclude, Spreads, WordIncludes};
 
 // Whether every bit of the row at a is one of the row at b.
@@ -8,25 +7,10 @@ fn row_within(s: &[u64], a: usize, b: usize, width: usize) -> bool
     requires { (a + width ≤ length s.now) × (b + width ≤ length s.now) }
     ensures { Decides result (RowPart s.now a b width) }
 {
-    let mut h = 0;
-    while h < width {
-        let y = s[b + h];
-        let x = s[a + h] | y;
-        if x != y {
+    for h in 0..width {
+        if s[a + h] | s[b + h] != s[b + h] {
             return false;
         }
-        h += 1;
-    }
-    true
-}
-
-// The same, asked only if `on`.
-fn row_within_if(s: &[u64], on: bool, a: usize, b: usize, width: usize) -> bool
-    requires { (a + width ≤ length s.now) × (b + width ≤ length s.now) }
-    ensures { Decides result ((on ≡ Bool.true → RowPart s.now a b width)) }
-{
-    if on {
-        return row_within(s, a, b, width);
     }
     true
 }
@@ -36,15 +20,11 @@ fn includes(s: &[u64], a: usize, from: usize, c: usize, width: usize, count: usi
     requires { (a + (count + 63) / 64 ≤ length s.now) × (from + count * width ≤ length s.now) × (c + width ≤ length s.now) }
     ensures { Decides result (Includes s.now a from c width count) }
 {
-    let mut y = 0;
-    let mut b = from;
-    while y < count {
+    for y in 0..count {
         let on = row::bit::has_bit(s[a + y / 64], (y % 64) as u64);
-        if !row_within_if(s, on, b, c, width) {
+        if on && !row_within(s, from + y * width, c, width) {
             return false;
         }
-        y += 1;
-        b += width;
     }
     true
 }
@@ -54,10 +34,7 @@ fn includes_own(s: &[u64], a: usize, from: usize, width: usize, count: usize) ->
     requires { (a + width ≤ length s.now) × (from + count * width ≤ length s.now) × (count ≤ 64 * width) }
     ensures { Decides result (Includes s.now a from a width count) }
 {
-    if crate::below::row_below(s, a, width, 0) {
-        return true;
-    }
-    includes(s, a, from, a, width, count)
+    crate::below::row_below(s, a, width, 0) || includes(s, a, from, a, width, count)
 }
 
 // The same for each of the rows at `at`.
@@ -72,14 +49,10 @@ pub fn rows_include(
     requires { (at + rows * width ≤ length s.now) × (from + count * width ≤ length s.now) × (count ≤ 64 * width) }
     ensures { Decides result (RowsInclude s.now at rows from width count) }
 {
-    let mut x = 0;
-    let mut a = at;
-    while x < rows {
-        if !includes_own(s, a, from, width, count) {
+    for x in 0..rows {
+        if !includes_own(s, at + x * width, from, width, count) {
             return false;
         }
-        x += 1;
-        a += width;
     }
     true
 }
@@ -89,31 +62,10 @@ fn blocks_within(s: &[u64], a: usize, b: usize, width: usize, size: usize, block
     requires { (a + width + blocks * size ≤ length s.now + size) × (b + width + blocks * size ≤ length s.now + size) }
     ensures { Decides result (BlocksPart s.now a b width size blocks) }
 {
-    let mut r = 0;
-    while r < blocks {
+    for r in 0..blocks {
         if !row_within(s, a + r * size, b + r * size, width) {
             return false;
         }
-        r += 1;
-    }
-    true
-}
-
-// The same, asked only if `on`.
-fn blocks_within_if(
-    s: &[u64],
-    on: bool,
-    a: usize,
-    b: usize,
-    width: usize,
-    size: usize,
-    blocks: usize,
-) -> bool
-    requires { (a + width + blocks * size ≤ length s.now + size) × (b + width + blocks * size ≤ length s.now + size) }
-    ensures { Decides result ((on ≡ Bool.true → BlocksPart s.now a b width size blocks)) }
-{
-    if on {
-        return blocks_within(s, a, b, width, size, blocks);
     }
     true
 }
@@ -132,15 +84,11 @@ fn spreads(
     requires { (a + (count + 63) / 64 ≤ length s.now) × (c + width + blocks * size ≤ length s.now + size) × (from + count * width ≤ length s.now) × (from + count * width + blocks * size ≤ length s.now + size) }
     ensures { Decides result (Spreads s.now a c from width count size blocks) }
 {
-    let mut y = 0;
-    let mut b = from;
-    while y < count {
+    for y in 0..count {
         let on = row::bit::has_bit(s[a + y / 64], (y % 64) as u64);
-        if !blocks_within_if(s, on, c, b, width, size, blocks) {
+        if on && !blocks_within(s, c, from + y * width, width, size, blocks) {
             return false;
         }
-        y += 1;
-        b += width;
     }
     true
 }
@@ -159,16 +107,19 @@ pub fn all_spread(
     requires { (at + count * step ≤ length s.now) × (count ≤ 64 * step) × (from + count * width ≤ length s.now) × (from + count * width + blocks * size ≤ length s.now + size) }
     ensures { Decides result (AllSpread s.now at step from width count size blocks) }
 {
-    let mut x = 0;
-    let mut a = at;
-    let mut c = from;
-    while x < count {
-        if !spreads(s, a, c, from, width, count, size, blocks) {
+    for x in 0..count {
+        if !spreads(
+            s,
+            at + x * step,
+            from + x * width,
+            from,
+            width,
+            count,
+            size,
+            blocks,
+        ) {
             return false;
         }
-        x += 1;
-        a += step;
-        c += width;
     }
     true
 }
@@ -178,25 +129,10 @@ pub fn reflexive(s: &[u64], from: usize, width: usize, count: usize) -> bool
     requires { (from + count * width ≤ length s.now) × (count ≤ 64 * width) }
     ensures { Decides result (Reflexive s.now from width count) }
 {
-    let mut x = 0;
-    let mut at = from;
-    while x < count {
-        if !row::bit::has_bit(s[at + x / 64], (x % 64) as u64) {
+    for x in 0..count {
+        if !row::bit::has_bit(s[from + x * width + x / 64], (x % 64) as u64) {
             return false;
         }
-        x += 1;
-        at += width;
-    }
-    true
-}
-
-// Whether every bit of w is one of z, asked only if `on`.
-fn word_within_if(on: bool, w: u64, z: u64) -> bool
-    ensures { Decides result ((on ≡ Bool.true → (k : ℕ) → Has w k → Has z k)) }
-{
-    if on {
-        let x = w | z;
-        return x == z;
     }
     true
 }
@@ -206,13 +142,11 @@ pub fn word_includes(s: &[u64], z: u64, from: usize, count: usize) -> bool
     requires { (from + count ≤ length s.now) × (count ≤ 64) }
     ensures { Decides result (WordIncludes s.now z from count) }
 {
-    let mut y = 0;
-    while y < count {
+    for y in 0..count {
         let on = row::bit::has_bit(z, y as u64);
-        if !word_within_if(on, s[from + y], z) {
+        if on && s[from + y] | z != z {
             return false;
         }
-        y += 1;
     }
     true
 }

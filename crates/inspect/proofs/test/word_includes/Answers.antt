@@ -1,18 +1,14 @@
 -- `inspect::test::word_includes` meets its contract. Assumes nothing.
-use native.Mathlib.Omega.{arith}
+use Rattle.std.proofs.Common.{arith, sym, ◌∙◌}
 use borrow.Author.Count.{below_more}
-use Rattle.logic.specs.laws.Decides.{decides-no, decides-yes}
-use Rattle.inspect.specs.laws.Test.{decides-has}
+use Rattle.logic.specs.laws.Decides.{decides-no}
+use Rattle.row.specs.laws.Bit.{hasb-has, hasb-not}
+use Rattle.inspect.specs.laws.Test.{part-word, word-part}
+use Rattle.inspect.proofs.test.word_includes.Goals.{else-on-via-then-on+else-s-from, else-on-via-else-on}
 use Rattle.inspect.proofs.test.word_includes.Goals as goal
 
-pub loop-y-init : goal.loop-y-init
-loop-y-init c = (omega arith, λ x l. absurd (omega arith))
-
-pub returns-then-not-word_within_if : goal.returns-then-not-word_within_if
-returns-then-not-word_within_if c = decides-no (λ f. (decides-has c.has_bit-on.ensures c.word_within_if.ensures).fails c.if-not-word_within_if.true (f c.loop-y.y (omega arith)))
+pub returns-then-s-from : goal.returns-then-s-from
+returns-then-s-from c = decides-no (λ f. c.if-s-from.true (word-part _ _ (c.type_inv.s _).fits c.ranges.z.fits (f c.loop-y.y (omega arith) (hasb-has _ _ (sym c.has_bit-on.ensures ∙ c.if-on.true)))))
 
 pub loop-y-preserved : goal.loop-y-preserved
-loop-y-preserved c = (omega arith, below_more _ _ c.loop-y.invariant.1 ((decides-has c.has_bit-on.ensures c.word_within_if.ensures).holds c.if-not-word_within_if.false))
-
-pub returns : goal.returns
-returns c = decides-yes (λ y l. c.loop-y.invariant.1 y (omega arith))
+loop-y-preserved c = below_more _ _ c.loop-y.invariant (elim c.else-on.branch [ else-on-via-then-on+else-s-from w ↦ (λ x. part-word _ _ w.if-s-from.false) | else-on-via-else-on w ↦ (λ x. absurd (hasb-not _ _ (sym c.has_bit-on.ensures ∙ w.if-on.false) x)) ])

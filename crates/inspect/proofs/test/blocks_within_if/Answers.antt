@@ -1,9 +1,0 @@
--- `inspect::test::blocks_within_if` meets its contract. Assumes nothing.
-use Rattle.logic.specs.laws.Decides.{decides-when, decides-off}
-use Rattle.inspect.proofs.test.blocks_within_if.Goals as goal
-
-pub returns-then-on : goal.returns-then-on
-returns-then-on c = decides-when c.if-on.true c.blocks_within.ensures
-
-pub returns : goal.returns
-returns c = decides-off c.if-on.false
