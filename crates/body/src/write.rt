@@ -120,6 +120,7 @@ impl Cursor {
 
     // Writes the expression at a node of the term t. It reads `left` nodes deep.
     #[cycle(expr_turns)]
+    #[tactic(auto, unfolding(rule::specs::Expr::expr_at))]
     pub fn expr(
         self,
         nodes: &[Slot; Rule::NODES],
