@@ -1,17 +1,14 @@
 -- `quick::named` meets its contract. Assumes nothing.
-use mathlib.Core.Path.{◌∙◌}
-use native.Mathlib.Omega.{arith}
-use Rattle.quick.specs.laws.Quick.{all_named, finds-none, named-within, other-count}
+use Rattle.std.proofs.Common.{◌∙◌, arith}
+use Rattle.quick.specs.laws.Quick.{all_named, named-within, other-count}
 use Rattle.quick.proofs.named.Goals as goal
 
-pub returns-then-ends-field_count : goal.returns-then-ends-field_count
-returns-then-ends-field_count c = finds-none c.untold.ensures (other-count _ c.requires.1 (λ e. omega (arith, e, c.if-ends-field_count.true, c.field_count.ensures)))
+pub returns-then-fields-field_count : goal.returns-then-fields-field_count
+returns-then-fields-field_count c = other-count _ c.args.fields.now.looked (λ e. omega (arith, e, c.if-fields-field_count.true, c.field_count.ensures))
 
-pub statement-statement-requires : goal.statement-statement-requires
-statement-statement-requires c = (c.requires.0, c.requires.1, omega arith)
+pub returns-then-within : goal.returns-then-within
+returns-then-within c =
+    all_named c.args.known.now.tidy _ c.args.fields.now.looked (c.if-fields-field_count.false ∙ c.field_count.ensures) c.statement-statement.ensures (c.within.ensures.holds c.if-within.true)
 
-pub returns : goal.returns
-returns c = record {
-  holds = λ e. all_named c.requires.0 _ c.requires.1 (c.if-ends-field_count.false ∙ c.field_count.ensures) c.statement-statement.ensures (c.within-found.ensures.holds e);
-  fails = λ e z d. c.within-found.ensures.fails e (named-within c.requires.0 _ c.statement-statement.ensures d);
-}
+pub returns-else-within : goal.returns-else-within
+returns-else-within c = λ z d. c.within.ensures.fails c.if-within.false (named-within c.args.known.now.tidy _ c.statement-statement.ensures d)

@@ -1,23 +1,17 @@
 -- `quick::statement_in` meets its contract. Assumes nothing.
-use mathlib.Core.Path.{sym, ap, ◌∙◌}
-use mathlib.Core.Bool.{not}
-use Rattle.quick.specs.laws.Quick.{finds-none, plain-bytes, plain-long, plain-some, plainly}
+use Rattle.std.proofs.Common.{sym, ap, ◌∙◌, not, ◌≡◌, length, rules}
+use Rattle.quick.specs.laws.Quick.{finds-same, plain-bytes, plain-long, plain-some, plainly}
 use Rattle.quick.proofs.statement_in.Goals as goal
+use Rattle.quick.proofs.statement_in.Goals.{then-is_empty-via-then-is_empty, then-is_empty-via-else-is_empty+then-line-gt-LINE, then-is_empty-via-else-is_empty+else-line-gt-LINE+then-not-good}
 
-pub returns-then-line-eq0 : goal.returns-then-line-eq0
-returns-then-line-eq0 c = finds-none c.untold.ensures (λ z. plain-some c.if-line-eq0.true)
-
-pub returns-then-line-gt-LINE : goal.returns-then-line-gt-LINE
-returns-then-line-gt-LINE c = finds-none c.untold-then-line-gt-LINE.ensures (λ z. plain-long c.if-line-gt-LINE.true)
-
-pub returns-then-not-good : goal.returns-then-not-good
-returns-then-not-good c = finds-none c.untold-then-not-good.ensures (λ z. plain-bytes c.if-line-gt-LINE.false (ap not (sym c.requires.1) ∙ c.if-not-good.true-raw))
-
-pub stated-requires : goal.stated-requires
-stated-requires c = (c.requires.0, c.requires.2 c.if-line-gt-LINE.false)
+pub returns-then-is_empty : goal.returns-then-is_empty
+returns-then-is_empty c = λ z.
+    elim c.then-is_empty.branch [
+      | then-is_empty-via-then-is_empty w ↦ (let e : length c.args.line.now ≡ 0 = search rules in plain-some e)
+      | then-is_empty-via-else-is_empty+then-line-gt-LINE w ↦ plain-long w.if-line-gt-LINE.true
+      | then-is_empty-via-else-is_empty+else-line-gt-LINE+then-not-good w ↦ plain-bytes w.if-line-gt-LINE.false (ap not (sym c.requires.0 ∙ w.if-not-good.true))
+    ]
 
 pub returns : goal.returns
-returns c = record {
-  holds = λ e. plainly _ _ _ _ c.requires.0.proper (c.stated.ensures.holds e) c.if-line-gt-LINE.false (ap not (sym c.requires.1) ∙ c.if-not-good.false-raw);
-  fails = λ e z p. c.stated.ensures.fails e z p.stated;
-}
+returns c =
+    finds-same _ (λ z d. plainly _ _ _ _ c.args.known.now.tidy.proper d c.if-line-gt-LINE.false (ap not (sym c.requires.0 ∙ c.if-not-good.false))) (λ z p. p.stated) c.stated.ensures

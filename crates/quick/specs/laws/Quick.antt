@@ -1,7 +1,7 @@
 -- The lines whose names are all declared, of which there are as many as there must be, are the statements with nothing wrong. Assumes nothing.
-use Rattle.std.specs.Prelude.{◌≡◌, Bool, true, false, not, List, [], ◌∷◌, ℕ, ◌+◌, ◌≤◌, ◌<◌, drop, length}
+use Rattle.std.specs.Prelude.{◌≡◌, true, false, not, List, [], ◌∷◌, ℕ, ◌+◌, ◌≤◌, ◌<◌, drop, length, Option, Some, None}
 use Rattle.std.proofs.Math.Path.{refl}
-use Rattle.std.proofs.Common.{sym, ap, ◌∙◌, subst, true≢false, arith, length-drop}
+use Rattle.std.proofs.Common.{sym, ◌∙◌, subst, true≢false, arith, length-drop}
 use borrow.Author.Tests.{le-ltb, lt-ltb, ltb-false}
 use Rattle.text.specs.Bytes.{every, place}
 use Rattle.text.specs.Name.{is_name, line_byte}
@@ -11,7 +11,6 @@ use Rattle.store.specs.declared.Statement.{Statement}
 use Rattle.store.specs.Cell.{Within, cell_of}
 use Rattle.field.specs.declared.Due.{Due}
 use Rattle.field.specs.declared.Due.TheVariants as due
-use Rattle.field.specs.declared.Form.{Form}
 use Rattle.field.specs.declared.Form.TheVariants as form
 use Rattle.field.specs.declared.StatementWord.{StatementWord}
 use Rattle.field.specs.declared.StatementWord.TheVariants as statement
@@ -23,7 +22,6 @@ use Rattle.line.specs.Fault.{fields_fault, form_fault, line_fault, line_limit}
 use Rattle.stated.specs.Stated.{statement_of}
 use Rattle.field.specs.own.Table.{Listed, Proper, Table, Tidy, concept_name, names_of}
 use Rattle.field.specs.own.Line.{Looked}
-use Rattle.quick.specs.declared.StatementLine.{StatementLine}
 use Rattle.quick.specs.own.Quick.{Finds, Named, Plainly, Stated}
 use Rattle.field.specs.laws.Names.{lower-none}
 use Rattle.field.specs.laws.Right.{concept-name-good, listed-good}
@@ -123,27 +121,14 @@ module _ (n : Names) where
         let some = statement-some line d.word d.form in
         record { some = some; right = sym (line-form n m line (some-long line some) g e) ∙ form-right; stated = d }
 
--- ---- nothing is found
+-- ---- what is found
 
--- where none is as P says, none is to be found
-pub finds-none : {P : Statement → Type 0} {r : StatementLine} → r.found ≡ false → ((z : Statement) → ¬ P z) → Finds P r
-finds-none u h = record { holds = λ e. absurd (true≢false (sym e ∙ u)); fails = λ e. h }
-
--- the form is that of a statement
-abbrev pub states : Form → Bool
-states form.Concept = false
-states form.Role = false
-states form.Item = false
-states (form.Statement w) = true
-states (form.Rule w) = false
-states form.Bare = false
-states form.Unknown = false
+-- what says the same of every statement is found alike
+pub finds-same : {P Q : Statement → Type 0} (r : Option Statement) → ((z : Statement) → P z → Q z) → ((z : Statement) → Q z → P z) → Finds P r → Finds Q r
+finds-same (Some s) f g q = f s q
+finds-same None f g q = λ z d. q z (g z d)
 
 module _ {n : Names} {m : Marks} {line : List ℕ} where
-  -- a line of another form says no statement
-  pub other-form : {f : Form} {r : StatementLine} → r.found ≡ false → f ≡ form_of (fields line) → states f ≡ false → Finds (Stated n m line) r
-  other-form u is h = finds-none u (λ z d. true≢false (sym (ap states (is ∙ d.form)) ∙ h))
-
   -- an empty line is none
   pub plain-some : {z : Statement} → length line ≡ 0 → ¬ Plainly n m line z
   plain-some h p = some-long line p.some h

@@ -1,5 +1,5 @@
 -- Lines that are statements with nothing wrong, as their fields alone tell.
-use Rattle.std.specs.Prelude.{◌≡◌, true, false, List, ℕ, drop, length}
+use Rattle.std.specs.Prelude.{◌≡◌, false, List, ℕ, drop, length, Option, Some, None}
 use Rattle.text.specs.Split.{fields}
 use Rattle.store.specs.declared.Statement.{Statement}
 use Rattle.store.specs.Cell.{Within, cell_of}
@@ -11,12 +11,11 @@ use Rattle.field.specs.Words.{Field, form_of}
 use Rattle.line.specs.declared.Marks.{Marks}
 use Rattle.line.specs.Fault.{line_fault}
 use Rattle.stated.specs.Stated.{statement_of}
-use Rattle.quick.specs.declared.StatementLine.{StatementLine}
 
 -- the statement that was found is as P says; where none was found, none is
-pub record Finds (P : Statement → Type 0) (r : StatementLine) : Type 0 where
-  pub holds : r.found ≡ true → P r.statement
-  pub fails : r.found ≡ false → (z : Statement) → ¬ P z
+abbrev pub Finds : (Statement → Type 0) → Option Statement → Type 0
+Finds P (Some s) = P s
+Finds P None = (z : Statement) → ¬ P z
 
 -- s is the statement of as many fields as its word wants, and all its names are declared
 pub record Named (n : Names) (w : StatementWord) (fs : List Field) (s : Statement) : Type 0 where
