@@ -1,48 +1,25 @@
 -- Laws of a text in a lent room. Assumes nothing.
 use Rattle.std.specs.Prelude.{◌≡◌, refl, List, ◌++◌, ℕ, ◌≤◌, ◌<◌, ℤ, pos, neg_ℤ, length, drop, take}
 use Rattle.std.proofs.Common.{sym, ap, ◌∙◌, subst, arith, length-take-le}
-use Rattle.std.proofs.Math.Decide.{dec_lt}
-use Rattle.std.proofs.lemmas.List.Edits.{sets}
 use Rattle.text.specs.Text.{Wrote}
 use Rattle.text.specs.laws.Text.{wrote-whole}
 use Rattle.handover.specs.Room.{InRoom}
 use Rattle.handover.specs.Room.InRoom.{too_long, written}
-use Rattle.handover.specs.own.Room.{Fitting, Just}
+use Rattle.handover.specs.own.Room.{Just}
 
 -- ---- bytes that are handed over
 
--- no more bytes are put than there are
-pub fitting-few : {n room k : ℕ} → Fitting n room k → k ≤ n
-fitting-few {n} {room} {k} f = go (dec_lt room n)
-  where
-    go : Dec (room < n) → k ≤ n
-    go (yes l) = omega (arith, f.none l)
-    go (no l) = let h : n ≤ room = omega arith in omega (arith, f.all h)
+module _ (own room : List ℕ) (n : ℕ) (fits : n ≤ length own) where
+  long : length (take n own) ≡ n
+  long = length-take-le n own fits
 
-module _ (own room : List ℕ) {exit : List ℕ} (n k : ℕ) {r : ℕ} (fits : n ≤ length own) (f : Fitting n (length room) k) (w : Wrote room 0 (take k own) exit r) where
   -- bytes that are more than the room
-  pub hand-long : k < n → InRoom (Just (take n own)) room exit (neg_ℤ (pos 8))
-  hand-long h = go (dec_lt (length room) n)
-    where
-      go : Dec (length room < n) → InRoom (Just (take n own)) room exit (neg_ℤ (pos 8))
-      go (yes l) = too_long refl (omega (arith, length-take-le n own fits)) (w.here ∙ ap (λ (i : ℕ). sets room 0 (take i own)) (f.none l))
-      go (no l) = let g : n ≤ length room = omega arith in absurd (omega (arith, f.all g))
+  pub hand-long : length room < n → InRoom (Just (take n own)) room room (neg_ℤ (pos 8))
+  hand-long h = too_long refl (omega (arith, long)) refl
 
   -- bytes that fit
-  pub hand-written : n ≤ k → InRoom (Just (take n own)) room exit (pos n)
-  hand-written h = go (dec_lt (length room) n)
-    where
-      long : length (take n own) ≡ n
-      long = length-take-le n own fits
-
-      all : n ≤ length room → InRoom (Just (take n own)) room exit (pos n)
-      all l =
-          let v : Wrote room 0 (take n own) exit r = subst (λ (i : ℕ). Wrote room 0 (take i own) exit r) (f.all l) w in
-          subst (λ (i : ℕ). InRoom (Just (take n own)) room exit (pos i)) long (written refl (omega (arith, long)) (wrote-whole v (omega (arith, long))))
-
-      go : Dec (length room < n) → InRoom (Just (take n own)) room exit (pos n)
-      go (yes l) = absurd (omega (arith, f.none l))
-      go (no l) = all (omega arith)
+  pub hand-written : {exit : List ℕ} {r : ℕ} → n ≤ length room → Wrote room 0 (take n own) exit r → InRoom (Just (take n own)) room exit (pos n)
+  hand-written {exit} l w = subst (λ (i : ℕ). InRoom (Just (take n own)) room exit (pos i)) long (written refl (omega (arith, long)) (wrote-whole w (omega (arith, long))))
 
 -- the one text is one of which Text holds
 pub in-room : {Text : List ℕ → Type 0} {t room exit : List ℕ} {r : ℤ} → Text t → InRoom (Just t) room exit r → InRoom Text room exit r

@@ -6,7 +6,7 @@ use Rattle.std.proofs.Math.Decide.{dec_lt}
 use Rattle.logic.specs.own.Decides.{Decides}
 use Rattle.logic.specs.laws.Decides.{decides-both, decides-iff, decides-no}
 use Rattle.store.specs.declared.Counts.{Counts}
-use Rattle.store.specs.Cell.{Cell, Within, DeclaredItem}
+use Rattle.store.specs.Cell.{Cell, Within}
 use Rattle.store.specs.Cell.Cell.{Same, Under, RoleUnder, In, Link}
 use Rattle.store.specs.Layout.{Fits, item_limit}
 use Rattle.reason.specs.declared.Fact.{Fact}

@@ -3,7 +3,7 @@ use Rattle.std.specs.Prelude.{◌≡◌, Bool, true, false, Option, Some, IfSome
 use Rattle.std.proofs.Common.{sym, subst, arith, mul-le-mul, mul-le-mul_left}
 use Rattle.store.specs.declared.Counts.{Counts}
 use Rattle.store.specs.Cell.{Cell, Within}
-use Rattle.store.specs.Cell.Cell.{Same, Under, RoleUnder, In, Link}
+use Rattle.store.specs.Cell.Cell.{Same, Under, RoleUnder}
 use Rattle.store.specs.Layout.{role_limit}
 use Rattle.store.specs.laws.Least.{least, within-obeys}
 use Rattle.reason.specs.declared.Fact.{Fact}

@@ -1,5 +1,5 @@
 -- A statement from which steps lead to a fact, minimal steps above and minimal steps of "same": together they are minimal. Assumes nothing.
-use Rattle.std.specs.Prelude.{◌≡◌, refl, ◌⊎◌, Bool, true, false, Option, Some, None, IsSomeAnd, List, ℕ}
+use Rattle.std.specs.Prelude.{◌≡◌, refl, ◌⊎◌, Bool, true, Option, Some, None, IsSomeAnd, List, ℕ}
 use Rattle.std.proofs.Common.{sym, ◌∙◌, subst, inl, inr}
 use Rattle.store.specs.Cell.{Cell}
 use Rattle.store.specs.Cell.Cell.{Same, Under, RoleUnder, In, Link}

@@ -1,5 +1,5 @@
 -- Statements kept as numbers.
-use Rattle.std.specs.Prelude.{Bool, true, false, cond, List, ℕ, ◌/◌, ◌%◌, ◌<◌, eqb}
+use Rattle.std.specs.Prelude.{true, false, cond, List, ℕ, ◌/◌, ◌%◌, ◌<◌, eqb}
 use Rattle.logic.specs.Number.{One}
 use Rattle.store.specs.declared.Counts.{Counts}
 use Rattle.store.specs.declared.Statement.{Statement}

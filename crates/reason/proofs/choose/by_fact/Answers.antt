@@ -1,5 +1,5 @@
 -- `reason::choose::by_fact` meets its contract. Assumes nothing.
-use mathlib.Core.Path.{refl}
+use Rattle.std.proofs.Common.{refl}
 use Rattle.reason.specs.own.Picked.{mark_words}
 use Rattle.reason.specs.laws.Explain.{joined-reaches}
 use Rattle.reason.specs.laws.Path.{lent-on}

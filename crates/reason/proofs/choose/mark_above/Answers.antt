@@ -1,5 +1,5 @@
 -- `reason::choose::mark_above` meets its contract. Assumes nothing.
-use native.Mathlib.Omega.{arith}
+use Rattle.std.proofs.Common.{arith}
 use Rattle.reason.specs.declared.Kind.TheVariants as kind
 use Rattle.reason.specs.laws.Aim.{above-least, above-wanted, small-aim, small_at, steps-above, steps-below}
 use Rattle.reason.proofs.choose.mark_above.Goals as goal
@@ -9,9 +9,6 @@ fill-requires c = (c.requires.1, c.requires.0.fits.items, steps-below kind.Same 
 
 pub fill-requires-2 : goal.fill-requires-2
 fill-requires-2 c = (record { wide = omega arith; long = omega arith }, omega arith, rw c.kind_above-kind.ensures (steps-above c.requires.0))
-
-pub find-n-requires : goal.find-n-requires
-find-n-requires c = record { counts = c.args.counts; aimed = c.requires.0; tables = record { of-same = c.fill.ensures; of-above = rw c.kind_above-kind.ensures at c.fill-2.ensures } }
 
 pub above_goal-goal-requires : goal.above_goal-goal-requires
 above_goal-goal-requires c = (c.fill.ensures.lent, rw c.fact_at.ensures (small_at c.requires.0 c.find-n.result c.find-n.ensures.low), small-aim c.requires.0)

@@ -1,5 +1,5 @@
 -- `reason::choose::mark_same` meets its contract. Assumes nothing.
-use native.Mathlib.Omega.{arith}
+use Rattle.std.proofs.Common.{arith}
 use Rattle.reason.specs.laws.Aim.{same-least, same-wanted, small-raised, small_at, steps-above}
 use Rattle.reason.specs.own.Aim.{fact_at}
 use Rattle.reason.proofs.choose.mark_same.Goals as goal

@@ -3,24 +3,6 @@ use Rattle.std.proofs.Common.{arith}
 use Rattle.reason.specs.laws.Code.{cell-number}
 use Rattle.reason.proofs.code.code.Goals as goal
 
-pub number-requires : goal.number-requires
-number-requires c = let p = rw c.in-Same.is at c.requires in (omega arith, p.0, p.1, omega arith)
-
-pub number-requires-in-Under : goal.number-requires-in-Under
-number-requires-in-Under c = let p = rw c.in-Under.is at c.requires in (omega arith, p.0, p.1, omega arith)
-
-pub number-requires-then-u : goal.number-requires-then-u
-number-requires-then-u c = let p = rw c.in-RoleUnder.is at c.requires in (omega arith, p.0, p.1, omega arith)
-
-pub number-requires-else-u : goal.number-requires-else-u
-number-requires-else-u c = let p = rw c.in-RoleUnder.is at c.requires in (omega arith, p.0, p.1, omega arith)
-
-pub number-requires-in-In : goal.number-requires-in-In
-number-requires-in-In c = let p = rw c.in-In.is at c.requires in (omega arith, p.0, p.1, omega arith)
-
-pub number-requires-in-Link : goal.number-requires-in-Link
-number-requires-in-Link c = let p = rw c.in-Link.is at c.requires in (omega arith, p.1, p.2, p.0)
-
 pub returns-in-Same : goal.returns-in-Same
 returns-in-Same c = let p = rw c.in-Same.is at c.requires in rw c.in-Same.is (cell-number _ 0 _ _ 0 (omega arith) p.0 p.1 c.number.ensures)
 

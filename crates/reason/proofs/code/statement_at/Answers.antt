@@ -1,5 +1,5 @@
 -- `reason::code::statement_at` meets its contract: each kind of number has its statement. Assumes nothing.
-use mathlib.Core.Path.{sym}
+use Rattle.std.proofs.Common.{sym}
 use Rattle.reason.specs.laws.Code.{cell-kind, cell-link}
 use Rattle.reason.proofs.code.statement_at.Goals as goal
 

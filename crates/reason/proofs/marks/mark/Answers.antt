@@ -1,5 +1,5 @@
 -- `reason::marks::mark` meets its contract. Assumes nothing.
-use native.Mathlib.Omega.{arith}
+use Rattle.std.proofs.Common.{arith}
 use Rattle.row.specs.laws.Pick.{marked-set}
 use Rattle.reason.proofs.marks.mark.Goals as goal
 

@@ -1,6 +1,6 @@
 -- `reason::seek::narrow` meets its contract: those marked are narrowed to, and the table is made of them. Assumes nothing.
-use mathlib.Core.Path.{◌≡◌}
-use lib.ListN.{length}
+use Rattle.std.proofs.Common.{◌≡◌}
+use Rattle.std.proofs.Common.{length}
 use Rattle.reason.specs.laws.Seek.{Narrowing}
 use Rattle.reason.proofs.seek.narrow.Given as goal
 
