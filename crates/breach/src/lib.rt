@@ -6,13 +6,6 @@ pub mod breaking;
 use row::Row;
 use rule::Head;
 
-// A root of a rule: the number of its node, or none.
-#[derive(Clone, Copy)]
-pub enum Root {
-    None,
-    At(usize),
-}
-
 // What is kept of a rule while its findings are sought: its head, and the rows of what its roots hold of.
 #[derive(Clone, Copy)]
 pub struct Plan {

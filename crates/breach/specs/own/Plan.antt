@@ -1,6 +1,6 @@
 -- What is kept of a rule while its findings are sought: its head, and the rows of what its roots hold of. And the places of its findings:
 -- for a pair rule the place of (x, y) is y in the row of x; for a rule about one item it is 0 in the row of x.
-use Rattle.std.specs.Prelude.{◌≡◌, Bool, true, false, List, ℕ, ◌<◌}
+use Rattle.std.specs.Prelude.{◌≡◌, Bool, true, false, List, ℕ, ◌<◌, Option, Some, None}
 use Rattle.row.specs.own.Row.{RowHas}
 use Rattle.row.specs.own.Pick.{Marks}
 use Rattle.store.specs.declared.Counts.{Counts}
@@ -8,15 +8,12 @@ use Rattle.store.specs.Cell.{Cell, DeclaredItem}
 use Rattle.rule.specs.declared.Head.{Head}
 use Rattle.rule.specs.declared.Head.TheVariants.{Sub, RoleSub, Chain, Ref, Irr, Dis, In, Rel, NoRel, Same, Differ}
 use Rattle.breach.specs.declared.Plan.{Plan}
-use Rattle.breach.specs.declared.Root.{Root}
 use Rattle.rule.specs.declared.Rule.{Rule}
 use Rattle.rule.specs.Second.{Second}
 use Rattle.rule.specs.declared.Slot.{Slot}
 use Rattle.rule.specs.Expr.{expr_of}
 use Rattle.rule.specs.Meaning.{Linked, HoldsOf}
 use Rattle.rule.specs.Breaks.{BreaksPair}
-use Rattle.breach.specs.declared.Root.TheVariants as root
-use Rattle.std.specs.Prelude.{None, Some}
 
 -- whether a rule is broken by pairs
 abbrev pub is_pair : Head → Bool
@@ -60,38 +57,38 @@ abbrev pub place_of : Second → ℕ
 place_of None = 0
 place_of (Some y) = y.0
 
--- the left root of a rule
-abbrev pub left_root : Head → Root
-left_root (Sub a b) = root.At a
-left_root (RoleSub r s) = root.None
-left_root (Chain k r1 r2 r3 r4 r) = root.None
-left_root (Ref r) = root.None
-left_root (Irr r) = root.None
-left_root (Dis r s) = root.None
-left_root (In a i) = root.At a
-left_root (Rel r i i') = root.None
-left_root (NoRel r i i') = root.None
-left_root (Same i i') = root.None
-left_root (Differ i i') = root.None
+-- the left root of a rule: the number of its node, if it has one
+abbrev pub left_root : Head → Option ℕ
+left_root (Sub a b) = Some a
+left_root (RoleSub r s) = None
+left_root (Chain k r1 r2 r3 r4 r) = None
+left_root (Ref r) = None
+left_root (Irr r) = None
+left_root (Dis r s) = None
+left_root (In a i) = Some a
+left_root (Rel r i i') = None
+left_root (NoRel r i i') = None
+left_root (Same i i') = None
+left_root (Differ i i') = None
 
--- the right root of a rule
-abbrev pub right_root : Head → Root
-right_root (Sub a b) = root.At b
-right_root (RoleSub r s) = root.None
-right_root (Chain k r1 r2 r3 r4 r) = root.None
-right_root (Ref r) = root.None
-right_root (Irr r) = root.None
-right_root (Dis r s) = root.None
-right_root (In a i) = root.None
-right_root (Rel r i i') = root.None
-right_root (NoRel r i i') = root.None
-right_root (Same i i') = root.None
-right_root (Differ i i') = root.None
+-- the right root of a rule, in the same way
+abbrev pub right_root : Head → Option ℕ
+right_root (Sub a b) = Some b
+right_root (RoleSub r s) = None
+right_root (Chain k r1 r2 r3 r4 r) = None
+right_root (Ref r) = None
+right_root (Irr r) = None
+right_root (Dis r s) = None
+right_root (In a i) = None
+right_root (Rel r i i') = None
+right_root (NoRel r i i') = None
+right_root (Same i i') = None
+right_root (Differ i i') = None
 
 -- the row marks what a root holds of; where there is no root it may be any
-abbrev pub RootRow : (Cell → Type 0) → Counts → List Slot → Root → List ℕ → Type 0
-RootRow C n ns root.None p = Unit {0}
-RootRow C n ns (root.At a) p = Marks n.items p (HoldsOf C n (expr_of ns a))
+abbrev pub RootRow : (Cell → Type 0) → Counts → List Slot → Option ℕ → List ℕ → Type 0
+RootRow C n ns None p = Unit {0}
+RootRow C n ns (Some a) p = Marks n.items p (HoldsOf C n (expr_of ns a))
 
 -- the plan of a rule
 pub record Planned (C : Cell → Type 0) (n : Counts) (u : Rule) (p : Plan) : Type 0 where
