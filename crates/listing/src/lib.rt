@@ -5,11 +5,13 @@ ghost use Rattle.std.specs.Prelude.{◌<◌, ◌≤◌, length};
 ghost use Rattle.judge.specs.own.Search.{Met, Ready};
 ghost use Rattle.store.specs.Layout.{width_of};
 ghost use Rattle.judge.specs.Promise.{Lists};
+ghost use Rattle.field.specs.own.Table.{table_of};
 ghost use Rattle.trail.specs.own.Trail.{Going, Went};
 ghost use Rattle.listing.specs.own.Listing.{Written};
 ghost use Rattle.listing.specs.Promise.{ReadsInto};
 
 use field::Table;
+use field::known::Known;
 use judge::{RuleRefusal, Search};
 use rule::{Finding, Rule};
 use sheet::{Accepted, Refused};
@@ -22,11 +24,9 @@ fn write(list: &mut [Finding], n: usize, words: &[u64], first: Search)
     ensures { Written (Met words.now first) n list.old list.new }
 {
     let mut c = first;
-    let mut i = 0;
-    while i < n {
+    for i in 0..n {
         list[i] = c.finding;
         c = judge::seek::step(words, c);
-        i += 1;
     }
 }
 
@@ -41,30 +41,20 @@ pub fn findings(
     ensures { Lists (width_of words.now) counts number rule words.now list.old list.new result }
 {
     let p = judge::seek::prepare(words, counts, number, rule, list.len());
-    let n = p.write;
-    let c = p.search;
-    write(list, n, words, c);
+    write(list, p.write, words, p.search);
     p.answer
 }
 
 // Writes the first n findings from the trail on into the list.
-fn write_all(
-    list: &mut [Finding],
-    n: usize,
-    sheet: &[u8],
-    names: &[u32],
-    words: &[u64],
-    first: Trail,
-)
-    requires { (n ≤ length list.old) × (0 < n → Going sheet.now names.now words.now first) }
-    ensures { Written (Went sheet.now names.now words.now first) n list.old list.new }
+// Beside `write`, with no generic function for the two: they share three lines, and a trait that names the finding at hand, the step with all that it is lent, and the laws of both would be longer.
+fn write_all(list: &mut [Finding], n: usize, known: &Known, words: &[u64], first: Trail)
+    requires { (n ≤ length list.old) × (0 < n → Going known.now.sheet.now (table_of known.now.numbers.now known.now.counts) words.now first) }
+    ensures { Written (Went known.now.sheet.now (table_of known.now.numbers.now known.now.counts) words.now first) n list.old list.new }
 {
     let mut c = first;
-    let mut done = 0;
-    while done < n {
-        list[done] = c.finding;
-        c = trail::step(sheet, names, words, c);
-        done += 1;
+    for i in 0..n {
+        list[i] = c.search.finding;
+        c = trail::step(known, words, c);
     }
 }
 
@@ -74,8 +64,11 @@ pub fn read(sheet: &[u8], words: &mut [u64], list: &mut [Finding]) -> Result<Acc
 {
     let mut names = [0u32; Table::LARGE_NUMBERS];
     let p = trail::open(sheet, words, &mut names, list.len());
-    let n = p.write;
-    let c = p.trail;
-    write_all(list, n, sheet, &names, words, c);
+    let known = Known {
+        sheet,
+        numbers: &names,
+        counts: p.counts,
+    };
+    write_all(list, p.write, &known, words, p.trail);
     p.answer
 }

@@ -9,6 +9,7 @@ use Rattle.sheet.specs.Promise.{Reads}
 use Rattle.sheet.specs.Promise.Reads.{accepted as accepted_read}
 use Rattle.sheet.specs.laws.Pass.{said_of}
 use Rattle.sheet.specs.laws.Unique.{found-unique, reads-unique}
+use Rattle.field.specs.own.Table.{table_of}
 use Rattle.trail.specs.declared.Opening.{Opening}
 use Rattle.trail.specs.own.Trail.{Begins, Opens, Went}
 use Rattle.trail.specs.own.Trail.Begins.{refused as not-begun, accepted as begun}
@@ -20,7 +21,7 @@ use Rattle.listing.specs.Promise.ReadsInto.{refused, accepted}
 use Rattle.listing.specs.laws.Written.{written-first, written_none}
 
 -- the writer's work is the reading
-pub reads-by : {sheet s t numbers : List ℕ} {before after : List Finding} {p : Opening} → Opens sheet s t numbers (length before) p → Written (Went sheet numbers t p.trail) p.write before after
+pub reads-by : {sheet s t numbers : List ℕ} {before after : List Finding} {p : Opening} → Opens sheet s t numbers (length before) p → Written (Went sheet (table_of numbers p.counts) t p.trail) p.write before after
     → ReadsInto sheet s t before after p.answer
 reads-by {sheet} {s} {t} {numbers} {before} {after} {p} a w = go a.begins
   where

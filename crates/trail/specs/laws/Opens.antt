@@ -83,14 +83,15 @@ module _ {sheet s t numbers : List ℕ} {w : Whole} (z : Wholly sheet s t number
     opens-paused = record { all = read-so.said; before = []; passing = passing }
 
     -- the reading with a list begins at the first of all findings
-    pub opens-accepted : {c : Trail} {i : ℕ} (room : ℕ) → i ≡ min a.findings room → Sought sheet numbers w.counts t w.start.at w.start.line 0 c
-        → Opens sheet s t numbers room (record { answer = Ok a; write = i; trail = c })
+    pub opens-accepted : {c : Trail} {i : ℕ} (room : ℕ) → i ≡ min a.findings room → Sought sheet table t w.start.at w.start.line 0 c
+        → Opens sheet s t numbers room (record { answer = w.answer; write = i; counts = w.counts; trail = c })
     opens-accepted {c} {i} room h f =
         let total : a.findings ≡ length read-so.list = ap total_in (sym e ∙ read-so.answer) in
         record {
           fits = omega (arith, h);
+          tidy = z.tidy;
           going = λ _. f.going;
-          begins = accepted read-so.long read-so.ends read-so.held read-so.findings (sym e ∙ read-so.answer) (h ∙ ap (λ (j : ℕ). min j room) total)
+          begins = accepted read-so.long read-so.ends read-so.held read-so.findings read-so.answer (h ∙ ap (λ (j : ℕ). min j room) total)
               (f.onward read-so.list (record {
                 said = read-so.said;
                 done = [];
@@ -102,5 +103,5 @@ module _ {sheet s t numbers : List ℕ} {w : Whole} (z : Wholly sheet s t number
         }
 
   -- it is refused
-  pub opens-refused : {c : Trail} {r : Refused} (room : ℕ) → w.answer ≡ Err r → Opens sheet s t numbers room (record { answer = w.answer; write = 0; trail = c })
-  opens-refused room e = record { fits = omega arith; going = λ h. absurd (omega arith); begins = refused (subst (Reads sheet s t) e z.reads) e refl }
+  pub opens-refused : {c : Trail} {r : Refused} (room : ℕ) → w.answer ≡ Err r → Opens sheet s t numbers room (record { answer = w.answer; write = 0; counts = w.counts; trail = c })
+  opens-refused room e = record { fits = omega arith; tidy = z.tidy; going = λ h. absurd (omega arith); begins = refused (subst (Reads sheet s t) e z.reads) e refl }

@@ -19,10 +19,10 @@ use Rattle.sheet.specs.own.Pass.{Next, NextRule, Passing, Paused, counted_in, fo
 use Rattle.sheet.specs.Promise.{FindingsFrom}
 use Rattle.sheet.specs.Promise.FindingsFrom.{none, more}
 use Rattle.sheet.specs.Said.{SheetRule}
-use Rattle.field.specs.own.Table.{Table, Tidy}
+use Rattle.field.specs.own.Table.{Table}
 use Rattle.sheet.specs.laws.Pass.{passing-rest}
 use Rattle.trail.specs.declared.Trail.{Trail}
-use Rattle.trail.specs.own.Trail.{Beyond, Ended, Going, Onward, Sought, Steps, Went, names_at, search_of, trail_at}
+use Rattle.trail.specs.own.Trail.{Beyond, Ended, Going, Onward, Sought, Steps, Went}
 
 -- ---- the findings of rules
 
@@ -114,10 +114,10 @@ module _ (sheet s : List ℕ) (names : Table) (past line k : ℕ) (r : RuleLine)
       p = from_more (subst (λ (rs : List SheetRule). From k rs fs) at-it b.findings)
 
   -- no rule is left
-  pub sought-none : {c : Trail} → r.found ≡ false → Tidy sheet names → ClosedStore (width_of s) names.counts s → Paused sheet names past line → k ≤ past → Ended names.counts past line k c
-      → Sought sheet names.numbers names.counts s past line k c
-  sought-none {c} e y m p h z = rw (z.declared-kept, z.past-kept, z.line_kept, z.number-kept) (record {
-    going = record { ready = λ i. absurd (omega (arith, z.more)); tidy = y; store = m; paused = p; few = h };
+  pub sought-none : {c : Trail} → r.found ≡ false → ClosedStore (width_of s) names.counts s → Paused sheet names past line → k ≤ past → Ended past line k c
+      → Sought sheet names s past line k c
+  sought-none {c} e m p h z = rw (z.past-kept, z.line_kept, z.number-kept) (record {
+    going = record { ready = λ i. absurd (omega (arith, z.more)); store = m; paused = p; few = h };
     onward = λ fs b. record { here = []; later = fs; all = refl; more = z.more; coming = λ i. absurd (omega (arith, z.more)); beyond = b; end = λ i. beyond-none e b };
   })
 
@@ -143,10 +143,10 @@ module _ (sheet s : List ℕ) (names : Table) (past line k : ℕ) (r : RuleLine)
         go t (g ∷ gs) q = absurd (omega (arith, o, counts, ap length (started t), ap length q))
 
     -- some: the trail stands at the first
-    pub sought-some : Tidy sheet names → ClosedStore (width_of s) names.counts s → Paused sheet names past line → k ≤ past → 0 < counted_in p.answer
-        → Sought sheet names.numbers names.counts s past line k (trail_at p.search (counted_in p.answer) names.counts r.past (r.line + 1) (k + 1))
-    sought-some y m a h o = record {
-      going = record { ready = λ i. z.ready; tidy = y; store = m; paused = beyond-paused n e a; few = omega (arith, n.later) };
+    pub sought-some : ClosedStore (width_of s) names.counts s → Paused sheet names past line → k ≤ past → 0 < counted_in p.answer
+        → Sought sheet names s past line k (record { search = p.search; more = counted_in p.answer; past = r.past; line = r.line + 1; number = k + 1 })
+    sought-some m a h o = record {
+      going = record { ready = λ i. z.ready; store = m; paused = beyond-paused n e a; few = omega (arith, n.later) };
       onward = λ fs b. let t = beyond-rule e b in record {
         here = t.here;
         later = t.later;
@@ -161,22 +161,26 @@ module _ (sheet s : List ℕ) (names : Table) (past line k : ℕ) (r : RuleLine)
 -- ---- one finding further
 
 -- the first of the findings that come is the one at hand
-pub onward-first : {sheet numbers s : List ℕ} {c : Trail} {f : Finding} {fs : List Finding} → Onward sheet numbers s c (f ∷ fs) → f ≡ c.finding
+pub onward-first : {sheet : List ℕ} {names : Table} {s : List ℕ} {c : Trail} {f : Finding} {fs : List Finding} → Onward sheet names s c (f ∷ fs) → f ≡ c.search.finding
 onward-first {s = s} {c = c} {f = f} {fs = fs} k = go k.here k.all k.more k.coming
   where
-    go : (hs : List Finding) → f ∷ fs ≡ hs ++ k.later → c.more ≡ length hs → (0 < c.more → Coming s (search_of c) hs) → f ≡ c.finding
+    go : (hs : List Finding) → f ∷ fs ≡ hs ++ k.later → c.more ≡ length hs → (0 < c.more → Coming s c.search hs) → f ≡ c.search.finding
     go [] e m g = absurd (omega (arith, ap length e, ap length (k.end m)))
     go (h ∷ hs) e m g = ap (λ (l : List Finding). get_or l 0 f) e ∙ coming-first (g (omega (arith, m)))
 
+-- the trail at a later search of the same rule
+abbrev pub further : Trail → Search → Trail
+further c d = record { search = d; more = c.more - 1; past = c.past; line = c.line; number = c.number }
+
 -- of the same rule
-pub steps-along : {sheet numbers s : List ℕ} {c : Trail} {d : Search} → Going sheet numbers s c → 1 < c.more → Stepped s (search_of c) d → Steps sheet numbers s c (trail_at d (c.more - 1) c.declared c.past c.line c.number)
-steps-along {sheet} {numbers} {s} {c} {d} a h t = record {
-  going = record { ready = λ i. t.ready; tidy = a.tidy; store = a.store; paused = a.paused; few = a.few };
+pub steps-along : {sheet : List ℕ} {names : Table} {s : List ℕ} {c : Trail} {d : Search} → Going sheet names s c → 1 < c.more → Stepped s c.search d → Steps sheet names s c (further c d)
+steps-along {sheet} {names} {s} {c} {d} a h t = record {
+  going = record { ready = λ i. t.ready; store = a.store; paused = a.paused; few = a.few };
   next = λ f fs k. go f fs k k.here k.all k.more k.coming;
 }
   where
-    go : (f : Finding) (fs : List Finding) (k : Onward sheet numbers s c (f ∷ fs)) (hs : List Finding) → f ∷ fs ≡ hs ++ k.later → c.more ≡ length hs → (0 < c.more → Coming s (search_of c) hs)
-        → Onward sheet numbers s (trail_at d (c.more - 1) c.declared c.past c.line c.number) fs
+    go : (f : Finding) (fs : List Finding) (k : Onward sheet names s c (f ∷ fs)) (hs : List Finding) → f ∷ fs ≡ hs ++ k.later → c.more ≡ length hs → (0 < c.more → Coming s c.search hs)
+        → Onward sheet names s (further c d) fs
     go f fs k [] e m g = absurd (omega (arith, m))
     go f fs k (j ∷ hs) e m g = record {
       here = hs;
@@ -189,10 +193,10 @@ steps-along {sheet} {numbers} {s} {c} {d} a h t = record {
     }
 
 -- of the next rule that has any
-pub steps-over : {sheet numbers s : List ℕ} {c d : Trail} → c.more ≤ 1 → Sought sheet numbers c.declared s c.past c.line c.number d → Steps sheet numbers s c d
-steps-over {sheet} {numbers} {s} {c} {d} h z = record { going = z.going; next = λ f fs k. z.onward fs (subst (Beyond sheet s (names_at numbers c) c.past c.line c.number) (sym (go f fs k k.here k.all k.more)) k.beyond) }
+pub steps-over : {sheet : List ℕ} {names : Table} {s : List ℕ} {c d : Trail} → c.more ≤ 1 → Sought sheet names s c.past c.line c.number d → Steps sheet names s c d
+steps-over {sheet} {names} {s} {c} {d} h z = record { going = z.going; next = λ f fs k. z.onward fs (subst (Beyond sheet s names c.past c.line c.number) (sym (go f fs k k.here k.all k.more)) k.beyond) }
   where
-    go : (f : Finding) (fs : List Finding) (k : Onward sheet numbers s c (f ∷ fs)) (hs : List Finding) → f ∷ fs ≡ hs ++ k.later → c.more ≡ length hs → fs ≡ k.later
+    go : (f : Finding) (fs : List Finding) (k : Onward sheet names s c (f ∷ fs)) (hs : List Finding) → f ∷ fs ≡ hs ++ k.later → c.more ≡ length hs → fs ≡ k.later
     go f fs k [] e m = absurd (omega (arith, ap length e, ap length (k.end m)))
     go f fs k (j ∷ []) e m = ap (drop 1) e
     go f fs k (j ∷ i ∷ hs) e m = absurd (omega (arith, m))
@@ -200,23 +204,23 @@ steps-over {sheet} {numbers} {s} {c} {d} h z = record { going = z.going; next = 
 -- ---- many findings further
 
 -- what was met are the first of the findings that were to come, and the others are still to come
-record Passed (sheet numbers s : List ℕ) (d : Trail) (fs ms : List Finding) : Type 0 where
+record Passed (sheet : List ℕ) (names : Table) (s : List ℕ) (d : Trail) (fs ms : List Finding) : Type 0 where
   rest : List Finding
   all : fs ≡ ms ++ rest
-  onward : Onward sheet numbers s d rest
+  onward : Onward sheet names s d rest
 
 -- so it is after any number of steps
-went-passed : {sheet numbers s : List ℕ} {first d : Trail} {ms fs : List Finding} → Went sheet numbers s first ms d → Onward sheet numbers s first fs → length ms ≤ length fs → Passed sheet numbers s d fs ms
+went-passed : {sheet : List ℕ} {names : Table} {s : List ℕ} {first d : Trail} {ms fs : List Finding} → Went sheet names s first ms d → Onward sheet names s first fs → length ms ≤ length fs → Passed sheet names s d fs ms
 went-passed {fs = fs} Went.start k h = record { rest = fs; all = refl; onward = k }
-went-passed {sheet} {numbers} {s} {fs = fs} (Went.more {fs = ms} {c = c} {d = d} w t) k h =
-    let long = length-append ms (c.finding ∷ []) in
+went-passed {sheet} {names} {s} {fs = fs} (Went.more {fs = ms} {c = c} {d = d} w t) k h =
+    let long = length-append ms (c.search.finding ∷ []) in
     let p = went-passed w k (omega arith) in
     go p.rest p.all p.onward
   where
-    go : (gs : List Finding) → fs ≡ ms ++ gs → Onward sheet numbers s c gs → Passed sheet numbers s d fs (ms ++ c.finding ∷ [])
-    go [] e k = absurd (omega (arith, ap length e, length-append ms [], length-append ms (c.finding ∷ [])))
-    go (g ∷ gs) e k = record { rest = gs; all = e ∙ ap (λ (f : Finding). ms ++ f ∷ gs) (onward-first k) ∙ sym (append_snoc ms c.finding gs); onward = t.next g gs k }
+    go : (gs : List Finding) → fs ≡ ms ++ gs → Onward sheet names s c gs → Passed sheet names s d fs (ms ++ c.search.finding ∷ [])
+    go [] e k = absurd (omega (arith, ap length e, length-append ms [], length-append ms (c.search.finding ∷ [])))
+    go (g ∷ gs) e k = record { rest = gs; all = e ∙ ap (λ (f : Finding). ms ++ f ∷ gs) (onward-first k) ∙ sym (append_snoc ms c.search.finding gs); onward = t.next g gs k }
 
 -- the findings met are the first of those that were to come
-pub went-first : {sheet numbers s : List ℕ} {first d : Trail} {ms fs : List Finding} → Went sheet numbers s first ms d → Onward sheet numbers s first fs → length ms ≤ length fs → take (length ms) fs ≡ ms
+pub went-first : {sheet : List ℕ} {names : Table} {s : List ℕ} {first d : Trail} {ms fs : List Finding} → Went sheet names s first ms d → Onward sheet names s first fs → length ms ≤ length fs → take (length ms) fs ≡ ms
 went-first {ms = ms} w k h = let p = went-passed w k h in ap (take (length ms)) p.all ∙ take-append_seam ms p.rest
