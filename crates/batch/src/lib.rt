@@ -70,7 +70,7 @@ fn fill(answers: &mut [i64], count: usize, r: i64)
 pub fn add_all(words: &mut [u64], counts: Counts, statements: &[u64], answers: &mut [i64]) -> usize
     ensures { AddsAll counts statements.now answers.old answers.new words.old words.new result }
 {
-    let count = row::number::lesser(statements.len() / 4, answers.len());
+    let count = (statements.len() / 4).min(answers.len());
     if !store::size::sized(words, counts) {
         fill(answers, count, refusal::signed(Err(Refusal::Size)));
         return count;
