@@ -46,8 +46,18 @@ not-and-found W sheet {u = u} {c = c} x y {lines} o p h g f r =
     let r' : Reason (counts_of x.names) c x.statements lines = subst (λ (z : Said). Reason (counts_of z.names) c z.statements lines) e r in
     f (reason-holds W x h r')
 
+-- the line of a refusal
+abbrev line_in : Reading → ℕ
+line_in (Ok a) = 0
+line_in (Err r) = r.line
+
+-- its number
+abbrev why_in : Reading → ℕ
+why_in (Ok a) = 0
+why_in (Err r) = r.why
+
 pub reading-same : {n k i j : ℕ} → refused_as n k ≡ refused_as i j → (n ≡ i) × (k ≡ j)
-reading-same e = (cc, cc)
+reading-same e = (ap line_in e, ap why_in e)
 
 pub explains-settled : {sheet s t u : List ℕ} {c : Cell} {before after other : List ℕ} {r q : Explained} → Words 64 t → Words 64 u → Explains sheet s t c before after r → Explains sheet s u c before other q
     → (t ≡ u) × SameAnswer r q
