@@ -14,20 +14,10 @@ pub fn is_closed(s: &[u64], at: Layout, counts: Counts) -> bool
     requires { Laid at s.now × Fits at.width counts }
     ensures { Decides result (ClosedStore at.width counts s.now) }
 {
-    if !parts::clean(s, at, counts) {
-        return false;
-    }
-    if !parts::same_closed(s, at, counts) {
-        return false;
-    }
-    if !parts::concepts_closed(s, at, counts) {
-        return false;
-    }
-    if !parts::roles_closed(s, at, counts) {
-        return false;
-    }
-    if !parts::items_closed(s, at, counts) {
-        return false;
-    }
-    parts::links_closed(s, at, counts)
+    parts::clean(s, at, counts)
+        && parts::same_closed(s, at, counts)
+        && parts::concepts_closed(s, at, counts)
+        && parts::roles_closed(s, at, counts)
+        && parts::items_closed(s, at, counts)
+        && parts::links_closed(s, at, counts)
 }

@@ -15,10 +15,8 @@ fn role_bits(w: u64, n: usize) -> bool
     requires { n ≤ role_limit }
     ensures { Decides result ((k : ℕ) → Has w k → RoleBit n k) }
 {
-    if !inspect::below::word_below(w % RoleWord::HALF, n) {
-        return false;
-    }
-    inspect::below::word_below(w / RoleWord::HALF, n)
+    inspect::below::word_below(w % RoleWord::HALF, n)
+        && inspect::below::word_below(w / RoleWord::HALF, n)
 }
 
 // Whether of the roles' words at `at` only the first n have bits, and only steps to the first n roles.
@@ -26,13 +24,11 @@ fn roles_below(s: &[u64], at: usize, n: usize) -> bool
     requires { (at + role_limit ≤ length s.now) × (n ≤ role_limit) }
     ensures { Decides result (RolesBelow s.now at role_limit n) }
 {
-    let mut r = 0;
-    while r < Store::ROLES {
-        let bits = row::number::only_if(r < n, n);
+    for r in 0..Store::ROLES {
+        let bits = if r < n { n } else { 0 };
         if !role_bits(s[at + r], bits) {
             return false;
         }
-        r += 1;
     }
     true
 }
@@ -43,33 +39,25 @@ pub fn clean(s: &[u64], at: Layout, counts: Counts) -> bool
     ensures { Decides result (Clean at counts s.now) }
 {
     let rows = 64 * at.width;
-    if !inspect::below::rows_below(s, 0, rows, at.width, counts.items, counts.items) {
-        return false;
-    }
-    if !inspect::below::rows_below(
-        s,
-        at.under,
-        Store::CONCEPTS,
-        1,
-        counts.concepts,
-        counts.concepts,
-    ) {
-        return false;
-    }
-    if !roles_below(s, at.role, counts.roles) {
-        return false;
-    }
-    if !inspect::below::rows_below(s, at.item, rows, 1, counts.items, counts.concepts) {
-        return false;
-    }
-    inspect::below::blocks_below(
-        s,
-        at.link,
-        Store::ROLES,
-        at.width,
-        counts.roles,
-        counts.items,
-    )
+    inspect::below::rows_below(s, 0, rows, at.width, counts.items, counts.items)
+        && inspect::below::rows_below(
+            s,
+            at.under,
+            Store::CONCEPTS,
+            1,
+            counts.concepts,
+            counts.concepts,
+        )
+        && roles_below(s, at.role, counts.roles)
+        && inspect::below::rows_below(s, at.item, rows, 1, counts.items, counts.concepts)
+        && inspect::below::blocks_below(
+            s,
+            at.link,
+            Store::ROLES,
+            at.width,
+            counts.roles,
+            counts.items,
+        )
 }
 
 // Whether each item is the same as itself, and what is the same as it is the same as all that are.
@@ -79,10 +67,8 @@ pub fn same_closed(s: &[u64], at: Layout, counts: Counts) -> bool
 {
     let width = at.width;
     let size = 64 * width * width;
-    if !inspect::test::reflexive(s, 0, width, counts.items) {
-        return false;
-    }
-    inspect::test::all_spread(s, 0, width, 0, width, counts.items, size, 1)
+    inspect::test::reflexive(s, 0, width, counts.items)
+        && inspect::test::all_spread(s, 0, width, 0, width, counts.items, size, 1)
 }
 
 // Whether each concept is under itself, and under what the concepts above it are under.
@@ -90,10 +76,8 @@ pub fn concepts_closed(s: &[u64], at: Layout, counts: Counts) -> bool
     requires { Laid at s.now × Fits at.width counts }
     ensures { Decides result (ConceptRules at counts s.now) }
 {
-    if !inspect::test::reflexive(s, at.under, 1, counts.concepts) {
-        return false;
-    }
-    inspect::test::rows_include(s, at.under, counts.concepts, at.under, 1, counts.concepts)
+    inspect::test::reflexive(s, at.under, 1, counts.concepts)
+        && inspect::test::rows_include(s, at.under, counts.concepts, at.under, 1, counts.concepts)
 }
 
 // Whether the word of role r, and so its inverse, includes the words of its steps.
@@ -102,10 +86,8 @@ fn role_closed(s: &[u64], at: usize, n: usize, r: usize) -> bool
     ensures { Decides result ((u : Bool) → WordIncludes s.now (turned u (get_or s.now (at + r) 0)) at n) }
 {
     let w = s[at + r];
-    if !inspect::test::word_includes(s, w, at, n) {
-        return false;
-    }
-    inspect::test::word_includes(s, store::role_word::turn_word(true, w), at, n)
+    inspect::test::word_includes(s, w, at, n)
+        && inspect::test::word_includes(s, store::role_word::turn_word(true, w), at, n)
 }
 
 // The same for each of the n roles.
@@ -113,12 +95,10 @@ fn role_steps(s: &[u64], at: usize, n: usize) -> bool
     requires { (at + n ≤ length s.now) × (n ≤ role_limit) }
     ensures { Decides result (RoleSteps s.now at n n) }
 {
-    let mut r = 0;
-    while r < n {
+    for r in 0..n {
         if !role_closed(s, at, n, r) {
             return false;
         }
-        r += 1;
     }
     true
 }
@@ -128,10 +108,7 @@ pub fn roles_closed(s: &[u64], at: Layout, counts: Counts) -> bool
     requires { Laid at s.now × Fits at.width counts }
     ensures { Decides result (RoleRules at counts s.now) }
 {
-    if !inspect::test::reflexive(s, at.role, 1, counts.roles) {
-        return false;
-    }
-    role_steps(s, at.role, counts.roles)
+    inspect::test::reflexive(s, at.role, 1, counts.roles) && role_steps(s, at.role, counts.roles)
 }
 
 // Whether each item is in what its concepts are under, and in the concepts of the items that are the same.
@@ -140,10 +117,8 @@ pub fn items_closed(s: &[u64], at: Layout, counts: Counts) -> bool
     ensures { Decides result (ItemRules at counts s.now) }
 {
     let rows = 64 * at.width;
-    if !inspect::test::rows_include(s, at.item, counts.items, at.under, 1, counts.concepts) {
-        return false;
-    }
-    inspect::test::all_spread(s, 0, at.width, at.item, 1, counts.items, rows, 1)
+    inspect::test::rows_include(s, at.item, counts.items, at.under, 1, counts.concepts)
+        && inspect::test::all_spread(s, 0, at.width, at.item, 1, counts.items, rows, 1)
 }
 
 // Whether the roles that link a and b, either way, have the roles above them beside them.
@@ -168,12 +143,10 @@ fn pairs_closed(s: &[u64], at: Layout, counts: Counts, a: usize) -> bool
     requires { Laid at s.now × Fits at.width counts × DeclaredItem counts a }
     ensures { Decides result ((b : ℕ) → DeclaredItem counts b → PairIncludes at s.now counts.roles a b) }
 {
-    let mut b = 0;
-    while b < counts.items {
+    for b in 0..counts.items {
         if !pair_closed(s, at, counts, a, b) {
             return false;
         }
-        b += 1;
     }
     true
 }
@@ -183,12 +156,10 @@ fn all_pairs_closed(s: &[u64], at: Layout, counts: Counts) -> bool
     requires { Laid at s.now × Fits at.width counts }
     ensures { Decides result ((a : ℕ) → DeclaredItem counts a → (b : ℕ) → DeclaredItem counts b → PairIncludes at s.now counts.roles a b) }
 {
-    let mut a = 0;
-    while a < counts.items {
+    for a in 0..counts.items {
         if !pairs_closed(s, at, counts, a) {
             return false;
         }
-        a += 1;
     }
     true
 }
@@ -201,7 +172,7 @@ pub fn links_closed(s: &[u64], at: Layout, counts: Counts) -> bool
     let width = at.width;
     let rows = 64 * width;
     let size = rows * width;
-    if !inspect::test::all_spread(
+    inspect::test::all_spread(
         s,
         0,
         width,
@@ -210,11 +181,6 @@ pub fn links_closed(s: &[u64], at: Layout, counts: Counts) -> bool
         counts.items,
         size,
         counts.roles,
-    ) {
-        return false;
-    }
-    if !inspect::test::rows_include(s, at.link, counts.roles * rows, 0, width, counts.items) {
-        return false;
-    }
-    all_pairs_closed(s, at, counts)
+    ) && inspect::test::rows_include(s, at.link, counts.roles * rows, 0, width, counts.items)
+        && all_pairs_closed(s, at, counts)
 }

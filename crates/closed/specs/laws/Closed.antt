@@ -1,6 +1,8 @@
 -- What the test asks is what a closed store is. Assumes nothing.
 use Rattle.std.proofs.Common.{sym, subst}
-use Rattle.std.specs.Prelude.{List, ℕ}
+use Rattle.std.specs.Prelude.{Bool, List, ℕ}
+use Rattle.logic.specs.own.Decides.{Decides}
+use Rattle.logic.specs.laws.Decides.{decides-iff}
 use Rattle.row.specs.Bit.{Words}
 use Rattle.store.specs.declared.Counts.{Counts}
 use Rattle.store.specs.declared.Layout.{Layout}
@@ -28,3 +30,7 @@ pub passed : {at : Layout} {n : Counts} {s : List ℕ} → Laid at s → Fits at
 passed {n = n} {s = s} d f ws x =
     let r = subst (λ (l : Layout). Rules l n s) (laid-is d) x in
     rules-store f d.long ws r.clean r.same r.concepts r.roles r.items r.links
+
+-- so a test of all that is asked is a test of a closed store
+pub decides-closed : {at : Layout} {n : Counts} {s : List ℕ} {r : Bool} → Laid at s → Fits at.width n → Words 64 s → Decides r (Rules at n s) → Decides r (ClosedStore at.width n s)
+decides-closed d f ws x = decides-iff (passed d f ws) (asked d ws) x

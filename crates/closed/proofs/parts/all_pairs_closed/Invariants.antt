@@ -1,11 +1,8 @@
 -- `closed::parts::all_pairs_closed` meets its contract. Assumes nothing.
-use Prim.Native.Nat.{ℕ, ◌≤◌, ◌<◌, ◌-◌}
+use Rattle.std.specs.Prelude.{ℕ, ◌<◌}
 use Rattle.closed.specs.own.Closed.{PairIncludes}
 use Rattle.store.specs.Cell.{DeclaredItem}
 use Rattle.closed.proofs.parts.all_pairs_closed.Given as goal
 
 abbrev pub invariant-loop-a : goal.invariant-loop-a
-invariant-loop-a l = (l.a ≤ l.counts.items) × ((j : ℕ) → j < l.a → (b : ℕ) → DeclaredItem l.counts b → PairIncludes l.at l.s l.counts.roles j b)
-
-abbrev pub decreases-loop-a : goal.decreases-loop-a
-decreases-loop-a l = l.counts.items - l.a
+invariant-loop-a l = (j : ℕ) → j < l.a → (b : ℕ) → DeclaredItem l.counts b → PairIncludes l.at l.s l.counts.roles j b

@@ -1,36 +1,16 @@
 -- `closed::parts::pair_closed` meets its contract. Assumes nothing.
-use native.Mathlib.Omega.{arith}
-use mathlib.Core.Path.{sym, ◌∙◌}
-use Prim.Native.Nat.{◌*◌}
-use native.Mathlib.Nat.{mul-le-mul_right}
+use Rattle.std.specs.Prelude.{◌*◌}
+use Rattle.std.proofs.Common.{arith, sym, ◌∙◌, mul-le-mul_right}
 use Rattle.logic.specs.laws.Decides.{decides-yes}
 use Rattle.row.specs.laws.Rows.{row_within}
 use Rattle.closed.specs.laws.Pairs.{link-word-lt, no-link}
 use Rattle.closed.proofs.parts.pair_closed.Goals as goal
-
-pub overflow_mul-to : goal.overflow_mul-to
-overflow_mul-to c = omega (arith, row_within c.args.a (64 * c.args.at.width) c.args.at.width (omega arith), row_within c.args.b (64 * c.args.at.width) c.args.at.width (omega arith))
-
-pub overflow_add-to : goal.overflow_add-to
-overflow_add-to c = omega (arith, row_within c.args.a (64 * c.args.at.width) c.args.at.width (omega arith), row_within c.args.b (64 * c.args.at.width) c.args.at.width (omega arith))
-
-pub overflow_add-to-2 : goal.overflow_add-to-2
-overflow_add-to-2 c = omega (arith, row_within c.args.a (64 * c.args.at.width) c.args.at.width (omega arith), row_within c.args.b (64 * c.args.at.width) c.args.at.width (omega arith))
 
 pub gather-there-requires : goal.gather-there-requires
 gather-there-requires c = omega (arith, row_within c.args.a (64 * c.args.at.width) c.args.at.width (omega arith), row_within c.args.b (64 * c.args.at.width) c.args.at.width (omega arith), mul-le-mul_right (64 * c.args.at.width * c.args.at.width) c.requires.1.roles)
 
 pub returns-then-there-eq0 : goal.returns-then-there-eq0
 returns-then-there-eq0 c = decides-yes (no-link c.args.at c.args.s.now c.args.counts.roles c.args.a c.args.b c.requires.1.roles (sym c.gather-there.ensures ∙ c.if-there-eq0.true))
-
-pub overflow_mul-from : goal.overflow_mul-from
-overflow_mul-from c = omega (arith, row_within c.args.a (64 * c.args.at.width) c.args.at.width (omega arith), row_within c.args.b (64 * c.args.at.width) c.args.at.width (omega arith))
-
-pub overflow_add-from : goal.overflow_add-from
-overflow_add-from c = omega (arith, row_within c.args.a (64 * c.args.at.width) c.args.at.width (omega arith), row_within c.args.b (64 * c.args.at.width) c.args.at.width (omega arith))
-
-pub overflow_add-from-2 : goal.overflow_add-from-2
-overflow_add-from-2 c = omega (arith, row_within c.args.a (64 * c.args.at.width) c.args.at.width (omega arith), row_within c.args.b (64 * c.args.at.width) c.args.at.width (omega arith))
 
 pub gather-back-requires : goal.gather-back-requires
 gather-back-requires c = omega (arith, row_within c.args.a (64 * c.args.at.width) c.args.at.width (omega arith), row_within c.args.b (64 * c.args.at.width) c.args.at.width (omega arith), mul-le-mul_right (64 * c.args.at.width * c.args.at.width) c.requires.1.roles)
@@ -40,6 +20,3 @@ overflow_mul-back c = omega (arith, link-word-lt c.args.at c.args.s.now c.args.c
 
 pub overflow_add-back : goal.overflow_add-back
 overflow_add-back c = omega (arith, link-word-lt c.args.at c.args.s.now c.args.counts.roles c.args.b c.args.a c.requires.1.roles, link-word-lt c.args.at c.args.s.now c.args.counts.roles c.args.a c.args.b c.requires.1.roles, c.gather-there.ensures, c.gather-back.ensures)
-
-pub returns : goal.returns
-returns c = rw (c.gather-there.ensures, c.gather-back.ensures) at c.word_includes.ensures
