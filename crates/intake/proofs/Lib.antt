@@ -1,0 +1,2 @@
+-- Lemmas on what a reader loses.
+mod Laws
