@@ -2,8 +2,7 @@ ghost use Rattle.std.specs.Prelude.{◌≡◌, true, false, ◌*◌, ◌≤◌};
 ghost use Rattle.logic.specs.Number.{Number};
 ghost use Rattle.row.specs.own.Row.{RowHas};
 ghost use Rattle.row.specs.own.Pick.{room};
-ghost use Rattle.store.specs.Layout.{ClosedStore, Holds};
-ghost use Rattle.store.specs.own.Laid.{Laid};
+ghost use Rattle.store.specs.own.View.{held};
 ghost use Rattle.breach.specs.own.Plan.{is_pair, second_at};
 ghost use Rattle.judge.specs.own.Cursor.{Advances, Begins, PlanBroken, Sought, current_of};
 
@@ -11,142 +10,105 @@ use crate::Cursor;
 use breach::Plan;
 use row::Row;
 use rule::{Finding, Head};
-use store::{Counts, Item, Layout};
+use store::Item;
+use store::view::View;
 
 // How many numbers the row has.
-fn ones(r: Row) -> u64
-    ensures { Number (RowHas r) result × (result ≤ 64 * room) }
+fn ones(r: &Row) -> u64
+    ensures { Number (RowHas r.now) result × (result ≤ 64 * room) }
 {
-    row::bit::count(&r)
+    row::bit::count(r)
 }
 
 // How many findings a rule about pairs has, row by row.
-fn count_rows(words: &[u64], at: Layout, counts: Counts, plan: Plan) -> u64
-    requires { Laid at words.now × ClosedStore at.width counts words.now × (is_pair plan.head ≡ true) }
-    ensures { Number (PlanBroken (Holds at.width counts words.now) counts plan) result }
+fn count_rows(view: &View, plan: Plan) -> u64
+    requires { is_pair plan.head ≡ true }
+    ensures { Number (PlanBroken (held view.now) view.now.counts plan) result }
 {
     let mut n: u64 = 0;
-    let mut x = 0;
-    while x < counts.items {
-        let head = plan.head;
-        let places = breach::breaking::pair_row(words, at, counts, head, x);
-        n += ones(places);
-        x += 1;
+    for x in 0..view.counts.items {
+        n += ones(&breach::breaking::pair_row(view, plan.head, x));
     }
     n
 }
 
 // How many findings there are.
-pub fn count(words: &[u64], at: Layout, counts: Counts, plan: Plan) -> u64
-    requires { Laid at words.now × ClosedStore at.width counts words.now }
-    ensures { Number (PlanBroken (Holds at.width counts words.now) counts plan) result }
+pub fn count(view: &View, plan: Plan) -> u64
+    ensures { Number (PlanBroken (held view.now) view.now.counts plan) result }
 {
-    let head = plan.head;
-    if breach::breaking::is_pair(head) {
-        return count_rows(words, at, counts, plan);
+    if breach::breaking::is_pair(plan.head) {
+        return count_rows(view, plan);
     }
-    ones(breach::breaking::alone_row(words, at, counts, plan))
-}
-
-// The cursor at the first finding from the row `from` on, or at the end, row by row.
-fn seek_rows(words: &[u64], at: Layout, counts: Counts, plan: Plan, from: usize) -> Cursor
-    requires { Laid at words.now × ClosedStore at.width counts words.now }
-    ensures { Sought (Holds at.width counts words.now) counts plan from result }
-{
-    let mut x = from;
-    while x < counts.items {
-        let left = breach::breaking::places(words, at, counts, plan, x);
-        let y = row::pick::least(&left);
-        if y < counts.items {
-            return Cursor {
-                plan,
-                row: left,
-                x,
-                y,
-            };
-        }
-        x += 1;
-    }
-    let none = row::pick::empty();
-    Cursor {
-        plan,
-        row: none,
-        x,
-        y: 0,
-    }
+    ones(&breach::breaking::alone_row(view, plan))
 }
 
 // The cursor at the first finding from the item `from` on, or at the end, for a rule about one item: by the row of the items that break it.
-fn seek_alone(words: &[u64], at: Layout, counts: Counts, plan: Plan, from: usize) -> Cursor
-    requires { Laid at words.now × ClosedStore at.width counts words.now × (is_pair plan.head ≡ false) × (from ≤ counts.items) }
-    ensures { Sought (Holds at.width counts words.now) counts plan from result }
+fn seek_alone(view: &View, plan: Plan, from: usize) -> Cursor
+    requires { (is_pair plan.head ≡ false) × (from ≤ view.now.counts.items) }
+    ensures { Sought (held view.now) view.now.counts plan from result }
 {
-    let broken = breach::breaking::alone_row(words, at, counts, plan);
-    let x = row::pick::next(&broken, from, counts.items);
-    if x == counts.items {
-        let none = row::pick::empty();
-        return Cursor {
-            plan,
-            row: none,
-            x,
-            y: 0,
-        };
+    let broken = breach::breaking::alone_row(view, plan);
+    let x = row::pick::next(&broken, from, view.counts.items);
+    let row = if x == view.counts.items {
+        row::pick::empty()
+    } else {
+        links::reach::item_row(0)
+    };
+    Cursor { plan, row, x, y: 0 }
+}
+
+// The cursor at the first finding from the row `from` on, or at the end; but for a rule of two roots row by row.
+fn seek(view: &View, plan: Plan, from: usize) -> Cursor
+    requires { from ≤ view.now.counts.items }
+    ensures { Sought (held view.now) view.now.counts plan from result }
+{
+    if breach::breaking::is_sub(plan.head) {
+        return seek_alone(view, plan, from);
     }
-    let place = links::reach::item_row(0);
+    for x in from..view.counts.items {
+        let row = breach::breaking::places(view, plan, x);
+        let y = row::pick::least(&row);
+        if y < view.counts.items {
+            return Cursor { plan, row, x, y };
+        }
+    }
     Cursor {
         plan,
-        row: place,
-        x,
+        row: row::pick::empty(),
+        x: view.counts.items,
         y: 0,
     }
 }
 
-// The cursor at the first finding from the row `from` on, or at the end.
-fn seek(words: &[u64], at: Layout, counts: Counts, plan: Plan, from: usize) -> Cursor
-    requires { Laid at words.now × ClosedStore at.width counts words.now × (from ≤ counts.items) }
-    ensures { Sought (Holds at.width counts words.now) counts plan from result }
-{
-    let head = plan.head;
-    if breach::breaking::is_sub(head) {
-        return seek_alone(words, at, counts, plan, from);
-    }
-    seek_rows(words, at, counts, plan, from)
-}
-
 // The cursor at the first of the findings, of which there are `total`, or at the end.
-pub fn first(words: &[u64], at: Layout, counts: Counts, plan: Plan, total: u64) -> Cursor
-    requires { Laid at words.now × ClosedStore at.width counts words.now × Number (PlanBroken (Holds at.width counts words.now) counts plan) total }
-    ensures { Begins (Holds at.width counts words.now) counts plan result }
+pub fn first(view: &View, plan: Plan, total: u64) -> Cursor
+    requires { Number (PlanBroken (held view.now) view.now.counts plan) total }
+    ensures { Begins (held view.now) view.now.counts plan result }
 {
     if total == 0 {
-        return seek(words, at, counts, plan, counts.items);
+        return seek(view, plan, view.counts.items);
     }
-    seek(words, at, counts, plan, 0)
+    seek(view, plan, 0)
 }
 
 // The cursor at the next finding; at the end it stays.
-pub fn advance(words: &[u64], at: Layout, counts: Counts, c: Cursor) -> Cursor
-    requires { Laid at words.now × ClosedStore at.width counts words.now }
-    ensures { Advances (Holds at.width counts words.now) counts c result }
+pub fn advance(view: &View, c: Cursor) -> Cursor
+    ensures { Advances (held view.now) view.now.counts c result }
 {
-    let plan = c.plan;
-    let left = c.row;
-    let x = c.x;
-    if counts.items <= x {
+    if view.counts.items <= c.x {
         return c;
     }
-    let here = links::reach::item_row(c.y);
-    let rest = row::pick::without(&left, &here);
+    let rest = row::pick::without(&c.row, &links::reach::item_row(c.y));
     let y = row::pick::least(&rest);
-    if y < counts.items {
+    if y < view.counts.items {
         return Cursor {
-            plan,
+            plan: c.plan,
             row: rest,
-            x,
+            x: c.x,
             y,
         };
     }
-    seek(words, at, counts, plan, x + 1)
+    seek(view, c.plan, c.x + 1)
 }
 
 // The second item at a place.
@@ -163,12 +125,9 @@ fn second_at(head: Head, y: usize) -> Option<Item>
 pub fn current(c: Cursor, number: usize) -> Finding
     ensures { result ≡ current_of number c }
 {
-    let plan = c.plan;
-    let head = plan.head;
-    let second = second_at(head, c.y);
     Finding {
         rule: number,
         item: Item(c.x),
-        second,
+        second: second_at(c.plan.head, c.y),
     }
 }

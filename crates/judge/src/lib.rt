@@ -10,7 +10,7 @@ ghost use Rattle.judge.specs.Promise.{Totals};
 use breach::Plan;
 use refusal::Numbered;
 use row::Row;
-use rule::{Finding, Head, Rule};
+use rule::{Finding, Rule};
 use store::{Counts, Layout};
 
 // Why a rule is refused.
@@ -50,16 +50,11 @@ pub struct Cursor {
     pub y: usize,
 }
 
-// A search for findings that a writer steps: the finding at hand, the parts of the cursor there, and what it reads the store by.
+// A search for findings that a writer steps: the finding at hand, the cursor there, and what it reads the store by.
 #[derive(Clone, Copy)]
 pub struct Search {
     pub finding: Finding,
-    pub x: usize,
-    pub y: usize,
-    pub row: Row,
-    pub left: Row,
-    pub right: Row,
-    pub head: Head,
+    pub cursor: Cursor,
     pub at: Layout,
     pub counts: Counts,
 }
@@ -76,6 +71,5 @@ pub struct Prepared {
 pub fn count(words: &[u64], counts: Counts, rule: Rule) -> Result<u64, RuleRefusal>
     ensures { Totals (width_of words.now) counts rule words.now result }
 {
-    let p = seek::prepare(words, counts, 0, rule, 0);
-    p.answer
+    seek::prepare(words, counts, 0, rule, 0).answer
 }

@@ -1,50 +1,23 @@
 ghost use Rattle.std.specs.Prelude.{◌≡◌};
 ghost use Rattle.store.specs.Layout.{ClosedStore};
 ghost use Rattle.store.specs.own.Laid.{Laid};
-ghost use Rattle.judge.specs.own.Search.{Prepares, Ready, Starts, Stepped, Stops, cursor_of, search_at};
+ghost use Rattle.judge.specs.own.Search.{Prepares, Ready, Starts, Stepped, Stops, search_at};
 
 use crate::{Cursor, Prepared, RuleRefusal, Search};
 use breach::Plan;
 use rule::Rule;
+use store::view::View;
 use store::{Counts, Layout, Store};
 
 // The search at a cursor, for a rule with the number given.
 fn search_at(cursor: Cursor, number: usize, at: Layout, counts: Counts) -> Search
     ensures { result ≡ search_at cursor number at counts }
 {
-    let finding = crate::findings::current(cursor, number);
-    let plan = cursor.plan;
-    let row = cursor.row;
-    let left = plan.left;
-    let right = plan.right;
-    let head = plan.head;
     Search {
-        finding,
-        x: cursor.x,
-        y: cursor.y,
-        row,
-        left,
-        right,
-        head,
+        finding: crate::findings::current(cursor, number),
+        cursor,
         at,
         counts,
-    }
-}
-
-// The cursor of a search.
-fn cursor_of(c: Search) -> Cursor
-    ensures { result ≡ cursor_of c }
-{
-    let head = c.head;
-    let left = c.left;
-    let right = c.right;
-    let row = c.row;
-    let plan = Plan { head, left, right };
-    Cursor {
-        plan,
-        row,
-        x: c.x,
-        y: c.y,
     }
 }
 
@@ -53,11 +26,13 @@ pub fn step(words: &[u64], c: Search) -> Search
     requires { Ready words.now c }
     ensures { Stepped words.now c result }
 {
-    let at = c.at;
-    let counts = c.counts;
-    let finding = c.finding;
-    let next = crate::findings::advance(words, at, counts, cursor_of(c));
-    search_at(next, finding.rule, at, counts)
+    let view = View {
+        words,
+        at: c.at,
+        counts: c.counts,
+    };
+    let next = crate::findings::advance(&view, c.cursor);
+    search_at(next, c.finding.rule, c.at, c.counts)
 }
 
 // What a listing needs, in a store that is known to be closed: a part of the entry points, for those who keep one store for many rules.
@@ -72,14 +47,14 @@ pub fn start(
     requires { Laid at words.now × ClosedStore at.width counts words.now }
     ensures { Starts words.now at counts number rule room result }
 {
-    let plan = breach::breaking::plan(words, at, counts, rule);
-    let total = crate::findings::count(words, at, counts, plan);
-    let cursor = crate::findings::first(words, at, counts, plan, total);
-    let search = search_at(cursor, number, at, counts);
+    let view = View { words, at, counts };
+    let plan = breach::breaking::plan(&view, &rule);
+    let total = crate::findings::count(&view, plan);
+    let cursor = crate::findings::first(&view, plan, total);
     Prepared {
         answer: Ok(total),
-        write: row::number::lesser(total as usize, room),
-        search,
+        write: (total as usize).min(room),
+        search: search_at(cursor, number, at, counts),
     }
 }
 
@@ -88,9 +63,8 @@ fn stop(counts: Counts, number: usize, rule: Rule, k: RuleRefusal) -> Prepared
     ensures { Stops k result }
 {
     let none = row::pick::empty();
-    let head = rule.head;
     let plan = Plan {
-        head,
+        head: rule.head,
         left: none,
         right: none,
     };
@@ -101,11 +75,10 @@ fn stop(counts: Counts, number: usize, rule: Rule, k: RuleRefusal) -> Prepared
         y: 0,
     };
     let at = store::size::layout(Store::SMALL);
-    let search = search_at(cursor, number, at, counts);
     Prepared {
         answer: Err(k),
         write: 0,
-        search,
+        search: search_at(cursor, number, at, counts),
     }
 }
 
@@ -120,10 +93,10 @@ pub fn prepare(words: &[u64], counts: Counts, number: usize, rule: Rule, room: u
     if !closed::is_closed(words, at, counts) {
         return stop(counts, number, rule, RuleRefusal::NotClosed);
     }
-    if !form::well_formed(rule) {
+    if !form::well_formed(&rule) {
         return stop(counts, number, rule, RuleRefusal::Malformed);
     }
-    if !form::rule_within(counts, rule) {
+    if !form::rule_within(counts, &rule) {
         return stop(counts, number, rule, RuleRefusal::Number);
     }
     start(words, at, counts, number, rule, room)

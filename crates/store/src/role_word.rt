@@ -8,7 +8,8 @@ pub fn turn_word(v: bool, w: u64) -> u64
     ensures { result ≡ turned v w }
 {
     if v {
-        return w % RoleWord::HALF * RoleWord::HALF + w / RoleWord::HALF;
+        w % RoleWord::HALF * RoleWord::HALF + w / RoleWord::HALF
+    } else {
+        w
     }
-    w
 }

@@ -1,4 +1,4 @@
-ghost use Rattle.std.specs.Prelude.{◌≡◌, ◌≤◌, ◌<◌, length};
+ghost use Rattle.std.specs.Prelude.{◌≡◌, ◌≤◌, length};
 ghost use Rattle.logic.specs.own.Decides.{Decides};
 ghost use Rattle.store.specs.Cell.{Within, cell_of};
 ghost use Rattle.store.specs.Layout.{Fits, Sized, size, width_of};
@@ -47,33 +47,21 @@ pub fn fits(width: usize, counts: Counts) -> bool
     requires { width ≤ widest }
     ensures { Decides result (Fits width counts) }
 {
-    if 64 * width < counts.items {
-        return false;
-    }
-    if Store::CONCEPTS < counts.concepts {
-        return false;
-    }
-    counts.roles <= Store::ROLES
+    counts.items <= 64 * width && counts.concepts <= Store::CONCEPTS && counts.roles <= Store::ROLES
 }
 
 // Whether the words have a store's length.
 pub fn long(words: &[u64]) -> bool
     ensures { Decides result (length words.now ≡ size (width_of words.now)) }
 {
-    if words.len() == Store::LARGE_WORDS {
-        return true;
-    }
-    words.len() == Store::WORDS
+    words.len() == Store::LARGE_WORDS || words.len() == Store::WORDS
 }
 
 // Whether the words have a store's length and the counts are within its limits.
 pub fn sized(words: &[u64], counts: Counts) -> bool
     ensures { Decides result (Sized (width_of words.now) counts words.now) }
 {
-    if !long(words) {
-        return false;
-    }
-    fits(width(words), counts)
+    long(words) && fits(width(words), counts)
 }
 
 // Whether the statement's numbers are below their counts.
@@ -81,25 +69,12 @@ pub fn within(counts: Counts, s: Statement) -> bool
     ensures { Decides result (Within counts (cell_of s)) }
 {
     match s {
-        Statement::Same(a, b) => below(a.0, counts.items, b.0, counts.items),
-        Statement::Under(a, b) => below(a.0, counts.concepts, b.0, counts.concepts),
-        Statement::RoleUnder(r, _, t) => below(r.0, counts.roles, t.0, counts.roles),
-        Statement::In(a, b) => below(a.0, counts.items, b.0, counts.concepts),
+        Statement::Same(a, b) => a.0 < counts.items && b.0 < counts.items,
+        Statement::Under(a, b) => a.0 < counts.concepts && b.0 < counts.concepts,
+        Statement::RoleUnder(r, _, t) => r.0 < counts.roles && t.0 < counts.roles,
+        Statement::In(a, b) => a.0 < counts.items && b.0 < counts.concepts,
         Statement::Link(r, a, b) => {
-            if r.0 < counts.roles {
-                return below(a.0, counts.items, b.0, counts.items);
-            }
-            false
+            r.0 < counts.roles && a.0 < counts.items && b.0 < counts.items
         }
     }
-}
-
-// Whether a is below m and b is below n.
-fn below(a: usize, m: usize, b: usize, n: usize) -> bool
-    ensures { Decides result ((a < m) × (b < n)) }
-{
-    if a < m {
-        return b < n;
-    }
-    false
 }

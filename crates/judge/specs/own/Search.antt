@@ -23,7 +23,7 @@ CellsOf s c = Holds c.at.width c.counts s
 
 -- the cursor of a search
 abbrev pub cursor_of : Search → Cursor
-cursor_of c = record { plan = record { head = c.head; left = c.left; right = c.right }; row = c.row; x = c.x; y = c.y }
+cursor_of c = c.cursor
 
 -- the search can go on in the words s
 pub record Ready (s : List ℕ) (c : Search) : Type 0 where
@@ -59,8 +59,7 @@ pub record Prepares (s : List ℕ) (n : Counts) (k : ℕ) (u : Rule) (room : ℕ
 
 -- the search at a cursor
 abbrev pub search_at : Cursor → ℕ → Layout → Counts → Search
-search_at c k at n =
-    record { finding = current_of k c; x = c.x; y = c.y; row = c.row; left = c.plan.left; right = c.plan.right; head = c.plan.head; at = at; counts = n }
+search_at c k at n = record { finding = current_of k c; cursor = c; at = at; counts = n }
 
 -- a listing of the rule u in a closed store begins at the first of all its findings
 pub record Starts (s : List ℕ) (at : Layout) (n : Counts) (k : ℕ) (u : Rule) (room : ℕ) (p : Prepared) : Type 0 where

@@ -1,6 +1,6 @@
 -- `judge::findings::second_at` meets its contract, by whether the rule is broken by pairs. Assumes nothing.
-use mathlib.Core.Path.{sym, ap, ◌∙◌}
-use mathlib.Core.Bool.{Bool}
+use Rattle.std.specs.Prelude.{Bool}
+use Rattle.std.proofs.Common.{ap, sym, ◌∙◌}
 use Rattle.breach.specs.own.Plan.{second_if}
 use Rattle.judge.proofs.findings.second_at.Goals as goal
 

@@ -3,5 +3,4 @@ use Rattle.judge.specs.laws.Search.{starts}
 use Rattle.judge.proofs.seek.start.Goals as goal
 
 pub returns : goal.returns
-returns c = rw (c.search_at-search.ensures, c.lesser.ensures)
-    (starts c.args.number c.args.room c.requires.0 c.requires.1 c.plan-plan.ensures c.count-total.ensures c.first-cursor.ensures)
+returns c = rw (c.search_at.ensures, c.min.ensures) (starts c.args.number c.args.room c.requires.0 c.requires.1 c.plan-plan.ensures c.count-total.ensures c.first-cursor.ensures)

@@ -3,4 +3,4 @@ use Rattle.judge.specs.laws.Search.{stepped}
 use Rattle.judge.proofs.seek.step.Goals as goal
 
 pub returns : goal.returns
-returns c = rw c.search_at.ensures (stepped c.requires (rw c.cursor_of.ensures at c.advance-next.ensures))
+returns c = rw c.search_at.ensures (stepped c.requires c.advance-next.ensures)

@@ -6,6 +6,6 @@ pub returns-then-v : goal.returns-then-v
 unfolding turned
 returns-then-v c = simp c.if-v.true
 
-pub returns : goal.returns
+pub returns-else-v : goal.returns-else-v
 unfolding turned
-returns c = simp c.if-v.false
+returns-else-v c = simp c.if-v.false

@@ -1,5 +1,5 @@
 -- `store::size::width` meets its contract. Assumes nothing.
-use mathlib.Core.Path.{sym}
+use Rattle.std.proofs.Common.{sym}
 use Rattle.store.specs.laws.Width.{width-large, width_small}
 use Rattle.store.proofs.size.width.Goals as goal
 
