@@ -10,25 +10,24 @@ ghost use Rattle.report.specs.Promise.{Pages, PagesIn, text_limit};
 
 use crate::Report;
 use field::Table;
+use field::known::Known;
 use line::Sheet;
 use printed::Tally;
 use sheet::{Ended, Start};
-use store::{Counts, Layout, Store};
+use store::{Layout, Store};
 
 // Judges the rules of an accepted sheet one after the other: prints their findings and counts them.
-fn judge_all(
-    sheet: &[u8],
-    names: &[u32],
-    counts: Counts,
-    start: Start,
-    words: &[u64],
-    at: Layout,
-    room: &mut [u8],
-) -> Tally
-    requires { Judges at.width sheet.now (table_of names.now counts) words.now × Since at.width sheet.now start × Laid at words.now }
-    ensures { JudgedAll at.width sheet.now (table_of names.now counts) words.now room.old room.new result }
+fn judge_all(known: &Known, start: Start, words: &[u64], at: Layout, room: &mut [u8]) -> Tally
+    requires { Judges at.width known.now.sheet.now (table_of known.now.numbers.now known.now.counts) words.now × Since at.width known.now.sheet.now start × Laid at words.now }
+    ensures { JudgedAll at.width known.now.sheet.now (table_of known.now.numbers.now known.now.counts) words.now room.old room.new result }
 {
-    let mut q = sheet::pass::next(sheet, names, counts, start.at, start.line);
+    let mut q = sheet::pass::next(
+        known.sheet,
+        known.numbers,
+        known.counts,
+        start.at,
+        start.line,
+    );
     let mut n = 0;
     let mut b = Tally {
         at: 0,
@@ -36,10 +35,9 @@ fn judge_all(
         total: 0,
     };
     while q.found {
-        let u = q.rule;
-        b = printed::judge(sheet, names, counts, q.line, n, u, words, at, room, b);
+        b = printed::judge(known, q.line, n, q.rule, words, at, room, b);
         n += 1;
-        q = sheet::pass::next(sheet, names, counts, q.past, q.line + 1);
+        q = sheet::pass::next(known.sheet, known.numbers, known.counts, q.past, q.line + 1);
     }
     b
 }
@@ -57,10 +55,12 @@ fn print_ended(
     ensures { Pages at.width sheet.now room.old room.new result }
 {
     if e.why == 0 {
-        let kept = e.kept;
-        let counts = kept.counts;
-        let start = e.start;
-        let b = judge_all(sheet, names, counts, start, words, at, room);
+        let known = Known {
+            sheet,
+            numbers: names,
+            counts: e.kept.counts,
+        };
+        let b = judge_all(&known, e.start, words, at, room);
         return printed::total(room, b.at, b.total);
     }
     printed::refused(room, 0, e.line, e.why)
@@ -89,11 +89,12 @@ fn page_with(sheet: &[u8], words: &mut [u64], names: &mut [u32], room: &mut [u8]
     print_ended(sheet, e, names, words, at, room)
 }
 
-// The same with numbers of its own, for a store that may be the larger one.
-fn page_large(sheet: &[u8], words: &mut [u64], room: &mut [u8]) -> usize
+// The same with N numbers of its own. Each N is a function of its own, so that only a store that is the larger one asks for a frame with its numbers.
+fn page_of<const N: usize>(sheet: &[u8], words: &mut [u64], room: &mut [u8]) -> usize
+    requires { (number_count (width_of words.old) ≤ N) × (N ≤ 65536) }
     ensures { PagesIn sheet.now words.old words.new room.old room.new result }
 {
-    let mut names = [0u32; Table::LARGE_NUMBERS];
+    let mut names = [0u32; N];
     page_with(sheet, words, &mut names, room)
 }
 
@@ -102,10 +103,9 @@ pub fn page_in(sheet: &[u8], words: &mut [u64], room: &mut [u8]) -> usize
     ensures { PagesIn sheet.now words.old words.new room.old room.new result }
 {
     if words.len() == Store::LARGE_WORDS {
-        return page_large(sheet, words, room);
+        return page_of::<{ Table::LARGE_NUMBERS }>(sheet, words, room);
     }
-    let mut names = [0u32; Table::NUMBERS];
-    page_with(sheet, words, &mut names, room)
+    page_of::<{ Table::NUMBERS }>(sheet, words, room)
 }
 
 // Writes the text that is printed for a sheet, as far as the room reaches; gives the length of the whole text.

@@ -1,5 +1,5 @@
 -- `printed::finding` meets its contract. Assumes nothing.
-use native.Mathlib.Omega.{arith}
+use Rattle.std.proofs.Common.{arith}
 use Rattle.text.specs.laws.Text.{wrote_then}
 use Rattle.printed.specs.own.Lines.{line_text}
 use Rattle.printed.proofs.finding.Goals as goal

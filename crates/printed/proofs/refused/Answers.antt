@@ -1,5 +1,5 @@
 -- `printed::refused` meets its contract. Assumes nothing.
-use native.Mathlib.Omega.{arith}
+use Rattle.std.proofs.Common.{arith}
 use Rattle.text.specs.laws.Text.{wrote_then}
 use Rattle.sheet.specs.Promise.{refused_text}
 use Rattle.printed.proofs.refused.Goals as goal

@@ -1,5 +1,5 @@
 -- `report::page::most` meets its contract. Assumes nothing.
-use mathlib.Core.Path.{sym}
+use Rattle.std.proofs.Common.{sym}
 use Rattle.store.specs.laws.Width.{width-large, width_small}
 use Rattle.report.specs.laws.Short.{limit-large, limit-small}
 use Rattle.report.proofs.page.most.Goals as goal

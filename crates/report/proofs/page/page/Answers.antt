@@ -1,8 +1,6 @@
 -- `report::page::page` meets its contract. Assumes nothing.
-use native.Mathlib.Omega.{arith}
-use mathlib.Core.Path.{refl, ◌∙◌}
-use lib.ListN.{length-replicate}
-use Prim.Native.Nat.{ℕ}
+use Rattle.std.proofs.Common.{arith, refl, ℕ, ◌∙◌}
+use Rattle.std.proofs.lemmas.List.{length-replicate}
 use Rattle.store.specs.Layout.{size, small}
 use Rattle.store.specs.laws.Laid.{laid_of}
 use Rattle.report.proofs.page.page.Goals as goal

@@ -1,12 +1,10 @@
 -- `report::page::page_in` meets its contract. Assumes nothing.
-use Rattle.sheet.specs.laws.Width.{numbers-small}
+use Rattle.std.proofs.Common.{arith}
+use Rattle.sheet.specs.laws.Width.{numbers-large, numbers-small}
 use Rattle.report.proofs.page.page_in.Goals as goal
 
-pub returns-then-words-eq-LARGE_WORDS : goal.returns-then-words-eq-LARGE_WORDS
-returns-then-words-eq-LARGE_WORDS c = c.page_large.ensures
+pub page_of-requires : goal.page_of-requires
+page_of-requires c = (numbers-large _, omega arith)
 
-pub page_with-requires : goal.page_with-requires
-page_with-requires c = numbers-small _ c.if-words-eq-LARGE_WORDS.false
-
-pub returns : goal.returns
-returns c = c.page_with.ensures
+pub page_of-requires-2 : goal.page_of-requires-2
+page_of-requires-2 c = (numbers-small _ c.if-words-eq-LARGE_WORDS.false, omega arith)

@@ -1,5 +1,5 @@
 -- `report::page::page_with` meets its contract. Assumes nothing.
-use mathlib.Core.Path.{◌∙◌}
+use Rattle.std.proofs.Common.{◌∙◌}
 use Rattle.store.specs.laws.Laid.{laid_of}
 use Rattle.store.specs.laws.Width.{laid_by, width-wide}
 use Rattle.sheet.specs.laws.Width.{width_some}
