@@ -1,5 +1,5 @@
 // Reads a rule from words.
-ghost use Rattle.std.specs.Prelude.{◌+◌, ◌<◌, ◌≤◌, ◌≡◌, length};
+ghost use Rattle.std.specs.Prelude.{◌+◌, ◌<◌, ◌≤◌, ◌≡◌};
 ghost use Rattle.rule.specs.Form.{node_limit};
 ghost use Rattle.spelled.specs.Rules.{chain_of, head_of, kind_of, node_of, node_words, nodes_below, role_use_at, rule_of, rule_words, word};
 
@@ -11,10 +11,7 @@ use store::{Concept, Item, Role};
 fn word_at(given: &[u64], i: usize) -> usize
     ensures { result ≡ word given.now i }
 {
-    if i < given.len() {
-        return given[i] as usize;
-    }
-    0
+    given.get(i).map_or(0, |w| *w as usize)
 }
 
 // The role at word i, or its inverse if the next word is not 0.
@@ -29,14 +26,15 @@ fn role_use(given: &[u64], i: usize) -> RoleUse
 }
 
 // The node whose words begin at word i; of an unknown kind one that is malformed.
+// A kind is a number here: that is how C writes it.
+#[tactic(auto, unfolding(crate::specs::Rules::node_of))]
 fn node(given: &[u64], i: usize) -> Node
     requires { i + node_words ≤ rule_words }
     ensures { result ≡ node_of given.now i }
 {
-    let kind = word_at(given, i);
     let a = word_at(given, i + 1);
     let b = word_at(given, i + 2);
-    match kind {
+    match word_at(given, i) {
         0 => Node::Name(Concept(a)),
         1 => Node::Top,
         2 => Node::Not(a),
@@ -52,30 +50,29 @@ fn node(given: &[u64], i: usize) -> Node
 fn chain(given: &[u64]) -> Head
     ensures { result ≡ chain_of given.now }
 {
-    let k = word_at(given, 1);
-    let last = role_use(given, 10);
     Head::Chain(
-        k,
+        word_at(given, 1),
         role_use(given, 2),
         role_use(given, 4),
         role_use(given, 6),
         role_use(given, 8),
-        last,
+        role_use(given, 10),
     )
 }
 
 // The head of a rule by its kind; of an unknown kind one without its roots.
+// A kind is a number here: that is how C writes it.
+#[tactic(auto, unfolding(crate::specs::Rules::kind_of))]
 fn kind_head(given: &[u64]) -> Head
     ensures { result ≡ kind_of given.now }
 {
-    let kind = word_at(given, 0);
     let a = word_at(given, 1);
     let b = word_at(given, 2);
     let c = Item(word_at(given, 3));
     let d = Item(word_at(given, 4));
     let r = role_use(given, 1);
     let s = role_use(given, 3);
-    match kind {
+    match word_at(given, 0) {
         0 => Head::Sub(a, b),
         1 => Head::RoleSub(r, s),
         2 => chain(given),
@@ -92,6 +89,7 @@ fn kind_head(given: &[u64]) -> Head
 }
 
 // The head of a rule; words of another length have one without its roots.
+#[tactic(auto, unfolding(crate::specs::Rules::head_of))]
 fn head(given: &[u64]) -> Head
     ensures { result ≡ head_of given.now }
 {
@@ -101,26 +99,13 @@ fn head(given: &[u64]) -> Head
     kind_head(given)
 }
 
-// Places for the nodes of a rule.
-fn blank() -> [Slot; Rule::NODES]
-    ensures { length result ≡ node_limit }
-{
-    [Slot { node: Node::Top }; Rule::NODES]
-}
-
 // The nodes of a rule.
 fn nodes(given: &[u64]) -> [Slot; Rule::NODES]
     ensures { result ≡ nodes_below given.now node_limit }
 {
-    let mut slots = blank();
-    let mut i = 0;
-    while i < Rule::NODES {
-        slots[i] = Slot {
-            node: node(given, Spelled::FIRST + Spelled::NODE * i),
-        };
-        i += 1;
-    }
-    slots
+    std::array::from_fn(|i| Slot {
+        node: node(given, Spelled::FIRST + Spelled::NODE * i),
+    })
 }
 
 // The rule that the words say.

@@ -143,11 +143,17 @@ dis-rest l l₁ ns c c₁ u v e s w = record { fits = after l l₁ c c₁ 2 (fla
 
 -- ---- a chain
 
-pub chain-room : (l : List ℕ) (ns : List Slot) (c : Cursor) (k : ℕ) (r1 r2 r3 r4 r : RoleUse) → c ≡ start 2 → Spacious l ns (Chain k r1 r2 r3 r4 r) → RoomyPath l c k r1 r2 r3 r4
+abbrev roles_of : ℕ → RoleUse → RoleUse → RoleUse → RoleUse → List RoleUse
+roles_of k r1 r2 r3 r4 = take k (r1 ∷ r2 ∷ r3 ∷ r4 ∷ [])
+
+roles-length : (k : ℕ) (r1 r2 r3 r4 : RoleUse) → k ≤ 4 → length (roles_of k r1 r2 r3 r4) ≡ k
+roles-length k r1 r2 r3 r4 h = omega (arith, length-take k (r1 ∷ r2 ∷ r3 ∷ r4 ∷ []))
+
+pub chain-room : (l : List ℕ) (ns : List Slot) (c : Cursor) (k : ℕ) (r1 r2 r3 r4 r : RoleUse) → c ≡ start 2 → Spacious l ns (Chain k r1 r2 r3 r4 r) → RoomyPath l c (take k (r1 ∷ r2 ∷ r3 ∷ r4 ∷ []))
 unfolding head_length
 chain-room l ns c k r1 r2 r3 r4 r e s =
-    let a = s.small.0 in let b = s.small.1 in let h = s.fits in
-    rw e (record { fits = omega arith; vars = omega arith; some = omega arith; few = b; small = s.small.2 })
+    let b = s.small.1 in let h = s.fits in let n = roles-length k r1 r2 r3 r4 b in
+    rw e (record { fits = omega arith; vars = omega arith; small = s.small.2 })
 
 path-words : (k t v : ℕ) (r1 r2 r3 r4 : RoleUse) → 2 ≤ k → k ≤ 4 → length (flat (path (take k (r1 ∷ r2 ∷ r3 ∷ r4 ∷ [])) t v)) ≡ 4 * k
 path-words zero t v r1 r2 r3 r4 l h = absurd (omega arith)
@@ -155,17 +161,18 @@ path-words (suc k) t v r1 r2 r3 r4 l h =
     let rs : List RoleUse = take k (r2 ∷ r3 ∷ r4 ∷ []) in
     omega (arith, length-flat (path (r1 ∷ rs) t v), size-path r1 rs t v, length-take k (r2 ∷ r3 ∷ r4 ∷ []))
 
-pub chain-rest : (l l₁ : List ℕ) (ns : List Slot) (c c₁ : Cursor) (k : ℕ) (r1 r2 r3 r4 r : RoleUse) → c ≡ start 2 → Spacious l ns (Chain k r1 r2 r3 r4 r) → Pathed l l₁ c c₁ 0 k r1 r2 r3 r4 → RoomFor l₁ c₁ 3 r
+pub chain-rest : (l l₁ : List ℕ) (ns : List Slot) (c c₁ : Cursor) (k : ℕ) (r1 r2 r3 r4 r : RoleUse) → c ≡ start 2 → Spacious l ns (Chain k r1 r2 r3 r4 r) → Pathed l l₁ c c₁ 0 (take k (r1 ∷ r2 ∷ r3 ∷ r4 ∷ [])) → RoomFor l₁ c₁ 3 r
 unfolding head_length
 chain-rest l l₁ ns c c₁ k r1 r2 r3 r4 r e s p =
     let a = s.small.0 in let b = s.small.1 in let h = s.fits in
-    record { fits = after l l₁ c c₁ 2 (flat (path (take k (r1 ∷ r2 ∷ r3 ∷ r4 ∷ [])) 0 c.next)) (k - 1) 12 e p.wrote (omega (arith, path-words k 0 c.next r1 r2 r3 r4 a b)); small = s.small.3 }
+    record { fits = after l l₁ c c₁ 2 (flat (path (roles_of k r1 r2 r3 r4) 0 c.next)) (length (roles_of k r1 r2 r3 r4) - 1) 12 e p.wrote (omega (arith, path-words k 0 c.next r1 r2 r3 r4 a b)); small = s.small.3 }
 
-pub chain-filled : (l l₁ l₂ : List ℕ) (ns : List Slot) (c c₁ c₂ : Cursor) (k : ℕ) (r1 r2 r3 r4 r : RoleUse) → c ≡ start 2 → Pathed l l₁ c c₁ 0 k r1 r2 r3 r4 → Wrote l₁ l₂ c₁ c₂ (flat (without (link r 0 1))) 0 → Filled l l₂ ns (Chain k r1 r2 r3 r4 r)
+pub chain-filled : (l l₁ l₂ : List ℕ) (ns : List Slot) (c c₁ c₂ : Cursor) (k : ℕ) (r1 r2 r3 r4 r : RoleUse) → c ≡ start 2 → Pathed l l₁ c c₁ 0 (take k (r1 ∷ r2 ∷ r3 ∷ r4 ∷ [])) → Wrote l₁ l₂ c₁ c₂ (flat (without (link r 0 1))) 0 → Filled l l₂ ns (Chain k r1 r2 r3 r4 r)
 unfolding body_of
 chain-filled l l₁ l₂ ns c c₁ c₂ k r1 r2 r3 r4 r e p x =
-    let q : Body = path (take k (r1 ∷ r2 ∷ r3 ∷ r4 ∷ [])) 0 2 in
-    let w : Wrote l l₁ c c₁ (flat q) (k - 1) = subst (λ v. Wrote l l₁ c c₁ (flat (path (take k (r1 ∷ r2 ∷ r3 ∷ r4 ∷ [])) 0 v)) (k - 1)) (ap (λ d. d.next) e) p.wrote in
+    let q : Body = path (roles_of k r1 r2 r3 r4) 0 2 in
+    let m : ℕ = length (roles_of k r1 r2 r3 r4) - 1 in
+    let w : Wrote l l₁ c c₁ (flat q) m = subst (λ v. Wrote l l₁ c c₁ (flat (path (roles_of k r1 r2 r3 r4) 0 v)) m) (ap (λ d. d.next) e) p.wrote in
     two-filled q (without (link r 0 1)) e refl w x
 
 -- ---- an expression of an item

@@ -1,6 +1,5 @@
 -- The numbers of a rule that is not refused can be written as words. Assumes nothing.
-use Rattle.std.specs.Prelude.{[], ◌∷◌, take}
-use Prim.Native.Nat.{ℕ, zero, suc, ◌≤◌, ◌<◌}
+use Rattle.std.specs.Prelude.{[], ◌∷◌, ℕ, zero, suc, ◌≤◌, ◌<◌, take}
 use Rattle.std.proofs.Common.{arith}
 use Rattle.store.specs.declared.Counts.{Counts}
 use Rattle.store.specs.Layout.{Fits, large}

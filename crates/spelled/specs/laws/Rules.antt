@@ -18,13 +18,13 @@ nodes-more g i s h e =
     subst (λ (k : ℕ). take k (set s i a) ≡ nodes_below g k) (sym (add-one i)) (take-suc-set s i a h ∙ ap (λ (l : List Slot). l ++ a ∷ []) e)
 
 -- so many nodes are read
-nodes-length : (g : List ℕ) (n : ℕ) → length (nodes_below g n) ≡ n
+pub nodes-length : (g : List ℕ) (n : ℕ) → length (nodes_below g n) ≡ n
 unfolding nodes_below
 nodes-length g zero = refl
 nodes-length g (suc n) = omega (arith, nodes-length g n, length-append (nodes_below g n) (record { node = node_of g (first_place + node_words * n) } ∷ []))
 
 -- each of them from its own words
-node_at-nodes_below : (g : List ℕ) (n i : ℕ) → i < n → node_at (nodes_below g n) i ≡ node_of g (first_place + node_words * i)
+pub node_at-nodes_below : (g : List ℕ) (n i : ℕ) → i < n → node_at (nodes_below g n) i ≡ node_of g (first_place + node_words * i)
 unfolding nodes_below
 node_at-nodes_below g zero i h = absurd (omega arith)
 node_at-nodes_below g (suc n) i h = go (dec_lt i n) (λ l. node_at-nodes_below g n i l)

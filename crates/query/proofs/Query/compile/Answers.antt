@@ -1,6 +1,5 @@
 -- `Query::compile` meets its contract: the lowest number that applies, or the query. Assumes nothing.
-use mathlib.Core.Path.{refl}
-use native.Mathlib.Omega.{arith}
+use Rattle.std.proofs.Common.{refl, arith}
 use Rattle.query.specs.Promise.Compiles.{refused}
 use Rattle.query.specs.laws.Promise.{refused-1, refused-3, refused-4, long-refused, room-refused, spacious, filled-compiled}
 use Rattle.query.proofs.Query.compile.Goals as goal

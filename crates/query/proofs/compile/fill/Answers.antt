@@ -1,77 +1,33 @@
--- `compile::fill` meets its contract: each arm writes its own kind. Assumes nothing.
-use mathlib.Core.Path.{refl}
-use native.Mathlib.Omega.{arith}
-use Rattle.body.specs.Length.{head_length}
-use Rattle.body.specs.Translation.{body_of}
-use Rattle.query.specs.laws.Filled.{spacious-as, spacious-free, filled-as, filled-free, atom-room, at-start}
+-- `compile::fill` meets its contract: the arms of two expressions, of a chain and of an expression of an item have laws of their own. Assumes nothing.
+use Rattle.query.specs.laws.Filled.{spacious-as, filled-as, sub-left, sub_open, sub-right, sub-close, sub-filled, chain-rest, chain-filled, in_inner, in-close, in-filled}
 use Rattle.query.proofs.compile.fill.Goals as goal
 
-pub sub-requires : goal.sub-requires
-sub-requires c = spacious-as _ _ _ _ c.in-Sub.is c.requires
+pub expr-requires : goal.expr-requires
+expr-requires c = sub-left _ _ _ _ _ c.start.ensures (spacious-as _ _ _ _ c.in-Sub.is c.requires)
 
-pub role_sub-requires : goal.role_sub-requires
-role_sub-requires c = spacious-free _ _ _ _ tt c.in-RoleSub.is c.requires
+pub open_not-requires : goal.open_not-requires
+open_not-requires c = sub_open _ _ _ _ _ _ _ c.start.ensures (spacious-as _ _ _ _ c.in-Sub.is c.requires) c.expr.ensures
 
-pub chain-requires : goal.chain-requires
-chain-requires c = spacious-free _ _ _ _ tt c.in-Chain.is c.requires
+pub expr-requires-in-Sub : goal.expr-requires-in-Sub
+expr-requires-in-Sub c = sub-right _ _ _ _ _ _ _ _ _ c.start.ensures (spacious-as _ _ _ _ c.in-Sub.is c.requires) c.expr.ensures c.open_not.ensures
 
-pub unlinked-requires : goal.unlinked-requires
-unfolding head_length
-unlinked-requires c = atom-room _ _ _ _ _ 1 3 c.start.ensures (omega arith) (spacious-as _ _ _ _ c.in-Ref.is c.requires).small (spacious-as _ _ _ _ c.in-Ref.is c.requires)
+pub close_not-requires : goal.close_not-requires
+close_not-requires c = sub-close _ _ _ _ _ _ _ _ _ _ _ c.start.ensures (spacious-as _ _ _ _ c.in-Sub.is c.requires) c.expr.ensures c.open_not.ensures c.expr-in-Sub.ensures
 
-pub link-requires : goal.link-requires
-unfolding head_length
-link-requires c = atom-room _ _ _ _ _ 1 1 c.start-in-Irr.ensures (omega arith) (spacious-as _ _ _ _ c.in-Irr.is c.requires).small (spacious-as _ _ _ _ c.in-Irr.is c.requires)
+pub unlinked-requires-in-Chain : goal.unlinked-requires-in-Chain
+unlinked-requires-in-Chain c = chain-rest _ _ _ _ _ _ _ _ _ _ _ c.start-in-Chain.ensures (spacious-as _ _ _ _ c.in-Chain.is c.requires) c.path.ensures
 
-pub disjoint-requires : goal.disjoint-requires
-disjoint-requires c = spacious-free _ _ _ _ tt c.in-Dis.is c.requires
+pub expr-requires-in-In : goal.expr-requires-in-In
+expr-requires-in-In c = in_inner _ _ _ _ _ _ _ c.start-in-In.ensures (spacious-as _ _ _ _ c.in-In.is c.requires) c.open_not-in-In.ensures
 
-pub inside-requires : goal.inside-requires
-inside-requires c = spacious-as _ _ _ _ c.in-In.is c.requires
-
-pub absent-requires : goal.absent-requires
-absent-requires c = spacious-free _ _ _ _ tt c.in-Rel.is c.requires
-
-pub present-requires : goal.present-requires
-present-requires c = spacious-free _ _ _ _ tt c.in-NoRel.is c.requires
-
-pub same-requires : goal.same-requires
-same-requires c = spacious-free _ _ _ _ tt c.in-Same.is c.requires
-
-pub differ-requires : goal.differ-requires
-differ-requires c = spacious-free _ _ _ _ tt c.in-Differ.is c.requires
+pub close_not-requires-in-In : goal.close_not-requires-in-In
+close_not-requires-in-In c = in-close _ _ _ _ _ _ _ _ _ _ c.start-in-In.ensures (spacious-as _ _ _ _ c.in-In.is c.requires) c.open_not-in-In.ensures c.expr-in-In.ensures
 
 pub returns-in-Sub : goal.returns-in-Sub
-returns-in-Sub c = filled-as _ _ _ _ _ c.in-Sub.is c.sub.ensures
-
-pub returns-in-RoleSub : goal.returns-in-RoleSub
-returns-in-RoleSub c = filled-free _ _ _ _ _ tt c.in-RoleSub.is c.role_sub.ensures
+returns-in-Sub c = filled-as _ _ _ _ _ c.in-Sub.is (sub-filled _ _ _ _ _ _ _ _ _ _ _ _ _ c.start.ensures c.expr.ensures c.open_not.ensures c.expr-in-Sub.ensures c.close_not.ensures)
 
 pub returns-in-Chain : goal.returns-in-Chain
-returns-in-Chain c = filled-free _ _ _ _ _ tt c.in-Chain.is c.chain.ensures
-
-pub returns-in-Ref : goal.returns-in-Ref
-unfolding body_of
-returns-in-Ref c = filled-as _ _ _ _ _ c.in-Ref.is (at-start c.start.ensures refl c.unlinked.ensures)
-
-pub returns-in-Irr : goal.returns-in-Irr
-unfolding body_of
-returns-in-Irr c = filled-as _ _ _ _ _ c.in-Irr.is (at-start c.start-in-Irr.ensures refl c.link.ensures)
-
-pub returns-in-Dis : goal.returns-in-Dis
-returns-in-Dis c = filled-free _ _ _ _ _ tt c.in-Dis.is c.disjoint.ensures
+returns-in-Chain c = filled-as _ _ _ _ _ c.in-Chain.is (chain-filled _ _ _ _ _ _ _ _ _ _ _ _ _ c.start-in-Chain.ensures c.path.ensures c.unlinked-in-Chain.ensures)
 
 pub returns-in-In : goal.returns-in-In
-returns-in-In c = filled-as _ _ _ _ _ c.in-In.is c.inside.ensures
-
-pub returns-in-Rel : goal.returns-in-Rel
-returns-in-Rel c = filled-free _ _ _ _ _ tt c.in-Rel.is c.absent.ensures
-
-pub returns-in-NoRel : goal.returns-in-NoRel
-returns-in-NoRel c = filled-free _ _ _ _ _ tt c.in-NoRel.is c.present.ensures
-
-pub returns-in-Same : goal.returns-in-Same
-returns-in-Same c = filled-free _ _ _ _ _ tt c.in-Same.is c.same.ensures
-
-pub returns-in-Differ : goal.returns-in-Differ
-returns-in-Differ c = filled-free _ _ _ _ _ tt c.in-Differ.is c.differ.ensures
+returns-in-In c = filled-as _ _ _ _ _ c.in-In.is (in-filled _ _ _ _ _ _ _ _ _ _ _ _ c.start-in-In.ensures c.term.ensures c.open_not-in-In.ensures c.expr-in-In.ensures c.close_not-in-In.ensures)
