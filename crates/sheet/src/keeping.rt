@@ -13,10 +13,7 @@ use store::{Counts, Layout, Statement};
 fn begun(m: Marks) -> bool
     ensures { result ≡ begun_by m }
 {
-    if m.stated {
-        return true;
-    }
-    0 < m.rules
+    m.stated || 0 < m.rules
 }
 
 // Makes the store fresh, unless a statement or a rule was accepted before; until then its words are all 0.

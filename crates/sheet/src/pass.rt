@@ -1,16 +1,15 @@
 // The second reading of an accepted sheet: its rules, one after the other. What is public here is a part with a `requires`, not an entry point.
 ghost use Rattle.std.specs.Prelude.{◌≡◌, false};
-ghost use Rattle.text.specs.Split.{fields};
-ghost use Rattle.sheet.specs.own.Pass.{Accepts, LineRule, Next, Opened, Paused, RuleIfReady};
-ghost use Rattle.field.specs.own.Table.{Tidy, names_of, table_of};
 ghost use Rattle.field.specs.Words.{body_of, form_of};
-ghost use Rattle.field.specs.own.Line.{Looked};
+ghost use Rattle.field.specs.own.Known.{fields_in, names_in};
+ghost use Rattle.sheet.specs.own.Pass.{Accepts, LineRule, Next, Opened, Paused, RuleIfReady, table_in};
 
 use crate::RuleLine;
 use field::Form;
+use field::known::{Fields, Known};
 use line::Sheet;
 use rule::Head;
-use store::{Counts, Item};
+use store::Item;
 
 // No rule.
 fn no_rule(line: usize, past: usize) -> RuleLine
@@ -26,26 +25,13 @@ fn no_rule(line: usize, past: usize) -> RuleLine
 }
 
 // The rule of a line, if it is the line of one; with the line's number and the place past it.
-fn rule_in(
-    sheet: &[u8],
-    names: &[u32],
-    counts: Counts,
-    line: &[u8],
-    ends: &[u16],
-    number: usize,
-    past: usize,
-) -> RuleLine
-    requires { Tidy sheet.now (table_of names.now counts) × Looked line.now ends.now × RuleIfReady line.now }
-    ensures { LineRule (names_of sheet.now (table_of names.now counts)) (form_of (fields line.now)) (body_of (fields line.now)) number past result }
+fn rule_in(known: &Known, fields: &Fields, number: usize, past: usize) -> RuleLine
+    requires { RuleIfReady fields.now.line.now }
+    ensures { LineRule (names_in known.now) (form_of (fields_in fields.now)) (body_of (fields_in fields.now)) number past result }
 {
-    let f = field::words::form(line, ends);
-    match f {
-        Form::Concept => no_rule(number, past),
-        Form::Role => no_rule(number, past),
-        Form::Item => no_rule(number, past),
-        Form::Statement(_) => no_rule(number, past),
+    match field::words::form(fields.line, fields.ends) {
         Form::Rule(w) => {
-            let rule = saying::rules::rule_of(sheet, names, counts, line, ends, 2, w);
+            let rule = saying::rules::rule_of(known, fields, 2, w);
             RuleLine {
                 found: true,
                 line: number,
@@ -53,32 +39,28 @@ fn rule_in(
                 rule,
             }
         }
-        Form::Bare => no_rule(number, past),
-        Form::Unknown => no_rule(number, past),
+        _ => no_rule(number, past),
     }
 }
 
 // The first rule from a place of the sheet on, where a line with the number given begins.
-pub fn next(sheet: &[u8], names: &[u32], counts: Counts, from: usize, first: usize) -> RuleLine
-    requires { Tidy sheet.now (table_of names.now counts) × Paused sheet.now (table_of names.now counts) from first }
-    ensures { Next sheet.now (table_of names.now counts) from first result }
+pub fn next(known: &Known, from: usize, first: usize) -> RuleLine
+    requires { Paused known.now.sheet.now (table_in known.now) from first }
+    ensures { Next known.now.sheet.now (table_in known.now) from first result }
 {
+    let sheet = known.sheet;
     let mut ends = [0u16; Sheet::FIELDS];
     let mut at = from;
     let mut line = first;
     while at <= sheet.len() {
         let s = reader::line::look_from(sheet, at, &mut ends);
         let end = s.end;
-        let n = row::number::lesser(s.count, Sheet::FIELDS);
-        let q = rule_in(
-            sheet,
-            names,
-            counts,
-            &sheet[at..end],
-            &ends[..n],
-            line,
-            end + 1,
-        );
+        let n = s.count.min(Sheet::FIELDS);
+        let fields = Fields {
+            line: &sheet[at..end],
+            ends: &ends[..n],
+        };
+        let q = rule_in(known, &fields, line, end + 1);
         if q.found {
             return q;
         }
@@ -89,10 +71,10 @@ pub fn next(sheet: &[u8], names: &[u32], counts: Counts, from: usize, first: usi
 }
 
 // The first rule of an accepted sheet.
-pub fn first(sheet: &[u8], names: &[u32], counts: Counts) -> RuleLine
-    requires { Tidy sheet.now (table_of names.now counts) × Accepts sheet.now (table_of names.now counts) }
-    ensures { Opened sheet.now (table_of names.now counts) result }
+pub fn first(known: &Known) -> RuleLine
+    requires { Accepts known.now.sheet.now (table_in known.now) }
+    ensures { Opened known.now.sheet.now (table_in known.now) result }
 {
-    let end = text::part::end_of(sheet, 0, 10);
-    next(sheet, names, counts, end + 1, 2)
+    let end = text::part::end_of(known.sheet, 0, 10);
+    next(known, end + 1, 2)
 }

@@ -2,13 +2,14 @@
 ghost use Rattle.std.specs.Prelude.{◌≡◌, ◌≤◌, length};
 ghost use Rattle.store.specs.Layout.{width_of};
 ghost use Rattle.store.specs.own.Laid.{Laid};
-ghost use Rattle.field.specs.own.Table.{number_count, table_of};
-ghost use Rattle.sheet.specs.own.Pass.{Judges, Totalled, Wholly, counted_in};
+ghost use Rattle.field.specs.own.Table.{number_count};
+ghost use Rattle.sheet.specs.own.Pass.{Judges, Totalled, Wholly, counted_in, table_in};
 ghost use Rattle.sheet.specs.own.Stands.{Since};
 
 use crate::{Accepted, Refused, Start, Whole};
+use field::known::Known;
 use judge::RuleRefusal;
-use store::{Counts, Layout};
+use store::Layout;
 
 // How many findings an answer counts.
 pub fn counted(t: Result<u64, RuleRefusal>) -> u64
@@ -21,27 +22,18 @@ pub fn counted(t: Result<u64, RuleRefusal>) -> u64
 }
 
 // How many findings the rules of an accepted sheet have in all.
-fn count_all(
-    sheet: &[u8],
-    words: &[u64],
-    at: Layout,
-    names: &[u32],
-    counts: Counts,
-    start: Start,
-) -> u64
-    requires { Judges at.width sheet.now (table_of names.now counts) words.now × Since at.width sheet.now start × Laid at words.now }
-    ensures { Totalled at.width sheet.now (table_of names.now counts) words.now result }
+fn count_all(known: &Known, words: &[u64], at: Layout, start: Start) -> u64
+    requires { Judges at.width known.now.sheet.now (table_in known.now) words.now × Since at.width known.now.sheet.now start × Laid at words.now }
+    ensures { Totalled at.width known.now.sheet.now (table_in known.now) words.now result }
 {
-    let mut q = crate::pass::next(sheet, names, counts, start.at, start.line);
+    let mut q = crate::pass::next(known, start.at, start.line);
     let mut n = 0;
     let mut total = 0;
     while q.found {
-        let u = q.rule;
-        let p = judge::seek::start(words, at, counts, n, u, 0);
-        let answer = p.answer;
-        total += counted(answer);
+        let p = judge::seek::start(words, at, known.counts, n, q.rule, 0);
+        total += counted(p.answer);
         n += 1;
-        q = crate::pass::next(sheet, names, counts, q.past, q.line + 1);
+        q = crate::pass::next(known, q.past, q.line + 1);
     }
     total
 }
@@ -52,23 +44,29 @@ pub fn whole(sheet: &[u8], words: &mut [u64], names: &mut [u32]) -> Whole
     ensures { Wholly sheet.now words.old words.new names.new result }
 {
     if !store::size::long(words) {
-        let counts = field::tables::none();
         return Whole {
             answer: Err(Refused { line: 0, why: 1 }),
-            counts,
+            counts: field::tables::none(),
             start: Start { at: 0, line: 0 },
         };
     }
     let at = store::size::layout_of(words);
     let e = crate::sheets::fill(sheet, words, at, names);
-    let kept = e.kept;
-    let counts = kept.counts;
+    let counts = e.kept.counts;
     let start = e.start;
     if e.why == 0 {
-        let marks = kept.marks;
-        let total = count_all(sheet, words, at, names, counts, start);
+        let known = Known {
+            sheet,
+            numbers: names,
+            counts,
+        };
+        let total = count_all(&known, words, at, start);
         return Whole {
-            answer: Ok(Accepted { counts, rules: marks.rules, findings: total }),
+            answer: Ok(Accepted {
+                counts,
+                rules: e.kept.marks.rules,
+                findings: total,
+            }),
             counts,
             start,
         };

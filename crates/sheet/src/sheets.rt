@@ -15,12 +15,13 @@ use store::Layout;
 fn blank() -> Kept
     ensures { result ≡ blank_kept }
 {
-    let counts = field::tables::none();
-    let marks = Marks {
-        stated: false,
-        rules: 0,
-    };
-    Kept { counts, marks }
+    Kept {
+        counts: field::tables::none(),
+        marks: Marks {
+            stated: false,
+            rules: 0,
+        },
+    }
 }
 
 // Where the rules begin, as far as is known: at the line that comes next, if there was no rule, and else where it was.
@@ -28,9 +29,10 @@ fn start_from(rules: usize, at: usize, line: usize, before: Start) -> Start
     ensures { result ≡ cond (eqb rules 0) (record { at = at; line = line }) before }
 {
     if rules == 0 {
-        return Start { at, line };
+        Start { at, line }
+    } else {
+        before
     }
-    before
 }
 
 // Reads the lines from a place of the sheet on, the first of which is line 2, up to the end or to the first faulty line.
@@ -52,7 +54,7 @@ fn read_lines(
     while at <= sheet.len() {
         let s = reader::line::look_from(sheet, at, &mut ends);
         let end = s.end;
-        let n = row::number::lesser(s.count, Sheet::FIELDS);
+        let n = s.count.min(Sheet::FIELDS);
         let r = crate::taking::read(
             sheet,
             words,
@@ -75,8 +77,7 @@ fn read_lines(
         }
         line += 1;
         at = end + 1;
-        let now = kept.marks;
-        start = start_from(now.rules, at, line, start);
+        start = start_from(kept.marks.rules, at, line, start);
     }
     Ended {
         line: 0,
@@ -98,11 +99,10 @@ fn read_all(sheet: &[u8], words: &mut [u64], at: Layout, names: &mut [u32]) -> E
         field::tables::allow(names, line::lines::item_room(first));
         return read_lines(sheet, words, at, names, end + 1);
     }
-    let kept = blank();
     Ended {
         line: 1,
         why,
-        kept,
+        kept: blank(),
         start: Start { at: 0, line: 0 },
     }
 }
@@ -111,11 +111,10 @@ fn read_all(sheet: &[u8], words: &mut [u64], at: Layout, names: &mut [u32]) -> E
 fn too_long() -> Ended
     ensures { result ≡ too_long }
 {
-    let kept = blank();
     Ended {
         line: 0,
         why: 9,
-        kept,
+        kept: blank(),
         start: Start { at: 0, line: 0 },
     }
 }
@@ -127,11 +126,7 @@ fn fill_short(sheet: &[u8], words: &mut [u64], at: Layout, names: &mut [u32]) ->
 {
     let r = read_all(sheet, words, at, names);
     if r.why == 0 {
-        let kept = r.kept;
-        let counts = kept.counts;
-        let marks = kept.marks;
-        crate::keeping::begin(words, at, counts, marks);
-        return r;
+        crate::keeping::begin(words, at, r.kept.counts, r.kept.marks);
     }
     r
 }

@@ -1,5 +1,4 @@
 ghost use Rattle.std.specs.Prelude.{◌≡◌, false, ◌+◌, ◌≤◌, ◌<◌, length, replicate};
-ghost use Rattle.text.specs.Split.{fields};
 ghost use Rattle.reader.specs.own.Scan.{start_by};
 ghost use Rattle.store.specs.Cell.{Within, cell_of};
 ghost use Rattle.store.specs.Layout.{Fits, large, size};
@@ -8,10 +7,11 @@ ghost use Rattle.field.specs.Due.{none};
 ghost use Rattle.line.specs.Fault.{begun, rule_limit};
 ghost use Rattle.sheet.specs.own.Stands.{Adding, Begins, Came, Comes, Declaration, Standing, TakenOther, TakesOther, one_rule, one_stated};
 ghost use Rattle.field.specs.own.Table.{Noted, concepts_from, entry_of, hint_at, number_count, place_count, table_of};
-ghost use Rattle.field.specs.own.Line.{Looked};
+ghost use Rattle.field.specs.own.Known.{fields_in};
 ghost use Rattle.field.specs.Words.{at as field_of};
 
 use crate::{Kept, LineRead};
+use field::known::{Fields, Known};
 use field::{Form, Table};
 use line::Marks;
 use store::{Layout, Statement};
@@ -21,15 +21,15 @@ fn add(words: &mut [u64], at: Layout, k: Kept, s: Statement) -> Kept
     requires { Standing at.width k words.old × Within k.counts (cell_of s) × Laid at words.old }
     ensures { (result ≡ one_stated k) × Adding at.width (begun k.marks) k.counts s words.old words.new }
 {
-    let counts = k.counts;
-    let m = k.marks;
-    crate::keeping::begin(words, at, counts, m);
-    crate::keeping::state(words, at, counts, s);
-    let marks = Marks {
-        stated: true,
-        rules: m.rules,
-    };
-    Kept { counts, marks }
+    crate::keeping::begin(words, at, k.counts, k.marks);
+    crate::keeping::state(words, at, k.counts, s);
+    Kept {
+        counts: k.counts,
+        marks: Marks {
+            stated: true,
+            rules: k.marks.rules,
+        },
+    }
 }
 
 // Takes a rule: the store is made fresh by the first one, and there is one rule more.
@@ -37,23 +37,29 @@ fn take_rule(words: &mut [u64], at: Layout, k: Kept) -> Kept
     requires { (begun k.marks ≡ false → words.old ≡ replicate (size at.width) 0) × Fits at.width k.counts × (k.marks.rules < rule_limit) × Laid at words.old }
     ensures { (result ≡ one_rule k) × Begins at.width (begun k.marks) k.counts words.old words.new }
 {
-    let counts = k.counts;
-    let m = k.marks;
-    crate::keeping::begin(words, at, counts, m);
-    let marks = Marks {
-        stated: m.stated,
-        rules: m.rules + 1,
-    };
-    Kept { counts, marks }
+    crate::keeping::begin(words, at, k.counts, k.marks);
+    Kept {
+        counts: k.counts,
+        marks: Marks {
+            stated: k.marks.stated,
+            rules: k.marks.rules + 1,
+        },
+    }
 }
 
 // Notes the name that a declaration declares, as the one after n others whose entries begin at `from`; the line starts at a place of the sheet.
-fn declare(names: &mut [u32], from: usize, n: usize, start: usize, line: &[u8], ends: &[u16])
-    requires { (from + n < length names.old) × (from + n < number_count large) × Looked line.now ends.now × Declaration line.now × (start + length line.now < place_count) × (concepts_from ≤ from) }
-    ensures { Noted names.old (from + n) (entry_of (field_of 1 (fields line.now)) (start + start_by 0 ends.now 1)) (hint_at from (field_of 1 (fields line.now))) names.new }
+fn declare(names: &mut [u32], from: usize, n: usize, start: usize, fields: &Fields)
+    requires { (from + n < length names.old) × (from + n < number_count large) × Declaration fields.now.line.now × (start + length fields.now.line.now < place_count) × (concepts_from ≤ from) }
+    ensures { Noted names.old (from + n) (entry_of (field_of 1 (fields_in fields.now)) (start + start_by 0 fields.now.ends.now 1)) (hint_at from (field_of 1 (fields_in fields.now))) names.new }
 {
-    let place = start + reader::scan::start(ends, 1);
-    field::tables::note(names, from, n, place, reader::scan::field(line, ends, 1));
+    let place = start + reader::scan::start(fields.ends, 1);
+    field::tables::note(
+        names,
+        from,
+        n,
+        place,
+        reader::scan::field(fields.line, fields.ends, 1),
+    );
 }
 
 // Takes a line that is not empty and no statement, and has no fault; it starts at a place of a sheet.
@@ -63,35 +69,31 @@ fn take_form(
     names: &mut [u32],
     k: Kept,
     start: usize,
-    line: &[u8],
-    ends: &[u16],
+    fields: &Fields,
 ) -> Kept
-    requires { TakesOther at.width (table_of names.old k.counts) k.marks words.old start line.now ends.now × (none line.now ≡ false) × Laid at words.old }
-    ensures { TakenOther at.width (table_of names.old k.counts) k.marks words.old start line.now (table_of names.new result.counts) result.marks words.new }
+    requires { TakesOther at.width (table_of names.old k.counts) k.marks words.old start fields.now.line.now × (none fields.now.line.now ≡ false) × Laid at words.old }
+    ensures { TakenOther at.width (table_of names.old k.counts) k.marks words.old start fields.now.line.now (table_of names.new result.counts) result.marks words.new }
 {
-    let f = field::words::form(line, ends);
     let mut counts = k.counts;
     let marks = k.marks;
-    match f {
+    match field::words::form(fields.line, fields.ends) {
         Form::Concept => {
-            declare(names, Table::CONCEPTS, counts.concepts, start, line, ends);
+            declare(names, Table::CONCEPTS, counts.concepts, start, fields);
             counts.concepts += 1;
             Kept { counts, marks }
         }
         Form::Role => {
-            declare(names, Table::ROLES, counts.roles, start, line, ends);
+            declare(names, Table::ROLES, counts.roles, start, fields);
             counts.roles += 1;
             Kept { counts, marks }
         }
         Form::Item => {
-            declare(names, Table::ITEMS, counts.items, start, line, ends);
+            declare(names, Table::ITEMS, counts.items, start, fields);
             counts.items += 1;
             Kept { counts, marks }
         }
-        Form::Statement(_) => k,
         Form::Rule(_) => take_rule(words, at, k),
-        Form::Bare => k,
-        Form::Unknown => k,
+        _ => k,
     }
 }
 
@@ -102,16 +104,15 @@ fn take(
     names: &mut [u32],
     k: Kept,
     start: usize,
-    line: &[u8],
-    ends: &[u16],
+    fields: &Fields,
 ) -> Kept
-    requires { TakesOther at.width (table_of names.old k.counts) k.marks words.old start line.now ends.now × Laid at words.old }
-    ensures { TakenOther at.width (table_of names.old k.counts) k.marks words.old start line.now (table_of names.new result.counts) result.marks words.new }
+    requires { TakesOther at.width (table_of names.old k.counts) k.marks words.old start fields.now.line.now × Laid at words.old }
+    ensures { TakenOther at.width (table_of names.old k.counts) k.marks words.old start fields.now.line.now (table_of names.new result.counts) result.marks words.new }
 {
-    if line.len() == 0 {
+    if fields.line.is_empty() {
         return k;
     }
-    take_form(words, at, names, k, start, line, ends)
+    take_form(words, at, names, k, start, fields)
 }
 
 // Reads a line, which starts at a place of the sheet: takes it, if it has no fault.
@@ -129,17 +130,18 @@ pub fn read(
     requires { Comes at.width sheet.now (table_of names.old k.counts) k.marks words.old start line.now good ends.now × Laid at words.old }
     ensures { Came at.width sheet.now (table_of names.old k.counts) k.marks words.old line.now result.why (table_of names.new result.kept.counts) result.kept.marks words.new }
 {
-    let counts = k.counts;
-    let marks = k.marks;
-    let q = quick::statement_in(sheet, names, counts, marks, line, good, ends);
-    if q.found {
-        let s = q.statement;
+    let known = Known {
+        sheet,
+        numbers: names,
+        counts: k.counts,
+    };
+    if let Some(s) = quick::statement_in(&known, k.marks, line, good, ends) {
         let kept = add(words, at, k, s);
         return LineRead { why: 0, kept };
     }
-    let why = line::lines::line_fault(sheet, names, counts, marks, line, good, ends);
+    let why = line::lines::line_fault(sheet, names, k.counts, k.marks, line, good, ends);
     if why == 0 {
-        let kept = take(words, at, names, k, start, line, ends);
+        let kept = take(words, at, names, k, start, &Fields { line, ends });
         return LineRead { why, kept };
     }
     LineRead { why, kept: k }

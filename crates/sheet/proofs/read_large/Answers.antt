@@ -4,6 +4,3 @@ use Rattle.sheet.proofs.read_large.Goals as goal
 
 pub whole-r-requires : goal.whole-r-requires
 whole-r-requires c = numbers-large _
-
-pub returns : goal.returns
-returns c = c.whole-r.ensures.reads

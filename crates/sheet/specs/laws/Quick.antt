@@ -1,15 +1,15 @@
 -- Lines told to be statements with nothing wrong are taken where they are added; where none was told, a line without a fault is no statement. Assumes nothing.
-use Rattle.std.specs.Prelude.{◌≡◌, refl, Bool, true, false, List, ℕ, drop}
+use Rattle.std.specs.Prelude.{◌≡◌, refl, Bool, true, List, ℕ, drop}
 use Rattle.std.proofs.Common.{sym}
 use Rattle.text.specs.Split.{fields}
 use Rattle.store.specs.declared.Statement.{Statement}
 use Rattle.store.specs.Cell.{Within, cell_of}
 use Rattle.line.specs.declared.Marks.{Marks}
 use Rattle.line.specs.Fault.{begun, line_fault}
+use Rattle.field.specs.own.Line.{Looked}
 use Rattle.field.specs.own.Table.{Table, names_of}
-use Rattle.quick.specs.declared.StatementLine.{StatementLine}
 use Rattle.sheet.specs.Said.{Said, line_said}
-use Rattle.quick.specs.own.Quick.{Finds, Plainly}
+use Rattle.quick.specs.own.Quick.{Plainly}
 use Rattle.sheet.specs.own.Stands.{Adding, Came, Comes, Stands, Takes, TakesOther}
 use Rattle.quick.specs.laws.Quick.{named-within, right-plainly}
 use Rattle.sheet.specs.laws.Stands.{stands-statement}
@@ -22,9 +22,12 @@ module _ {W : ℕ} {sheet : List ℕ} {t : Table} {m : Marks} {s : List ℕ} {st
   comes-takes z = record { said = c.said; stands = c.stands; right = z; is = c.is; inside = c.inside; short = c.short }
 
   -- and where no statement was found, it is none
-  pub comes-other : {r : StatementLine} → line_fault (names_of sheet t) m line ≡ 0 → Finds (Plainly (names_of sheet t) m line) r → r.found ≡ false → TakesOther W t m s start line ends
-  comes-other z q u =
-      record { sheet = sheet; takes = comes-takes z; looked = c.looked (right-short (names_of sheet t) m line z); other = λ w f. q.fails u _ (right-plainly (names_of sheet t) m line w z f) }
+  pub comes-other : line_fault (names_of sheet t) m line ≡ 0 → ((z : Statement) → ¬ Plainly (names_of sheet t) m line z) → TakesOther W t m s start line
+  comes-other z q = record { sheet = sheet; takes = comes-takes z; other = λ w f. q _ (right-plainly (names_of sheet t) m line w z f) }
+
+  -- and its fields were looked at
+  pub comes-looked : line_fault (names_of sheet t) m line ≡ 0 → Looked line ends
+  comes-looked z = c.looked (right-short (names_of sheet t) m line z)
 
   -- a statement with nothing wrong has its numbers below their counts, and is taken where it is added
   module _ (z : Statement) (p : Plainly (names_of sheet t) m line z) where

@@ -178,3 +178,17 @@ module _ {W : ℕ} {sheet : List ℕ} {t : Table} {m : Marks} {s : List ℕ} {st
 
   pub unknown-taken : f ≡ form.Unknown → (k : ℕ) (x : Said) → Stands W sheet t m s x → Stands W sheet t m s (line_said k x line)
   unknown-taken told k x st = by_form k x (rw told st)
+
+  -- a line that is neither a declaration nor a statement nor a rule says nothing
+  pub other-taken : (f ≡ form.Concept → ⊥) → (f ≡ form.Role → ⊥) → (f ≡ form.Item → ⊥) → ((w : RuleWord) → f ≡ form.Rule w → ⊥) → ((w : StatementWord) → f ≡ form.Statement w → ⊥)
+      → (k : ℕ) (x : Said) → Stands W sheet t m s x → Stands W sheet t m s (line_said k x line)
+  other-taken c r i u w = go f refl
+    where
+      go : (g : Form) → f ≡ g → (k : ℕ) (x : Said) → Stands W sheet t m s x → Stands W sheet t m s (line_said k x line)
+      go form.Concept e = absurd (c e)
+      go form.Role e = absurd (r e)
+      go form.Item e = absurd (i e)
+      go (form.Statement v) e = absurd (w v e)
+      go (form.Rule v) e = absurd (u v e)
+      go form.Bare e = bare-taken e
+      go form.Unknown e = unknown-taken e

@@ -21,6 +21,11 @@ use Rattle.sheet.specs.Said.Outcome.{accepted}
 use Rattle.field.specs.own.Table.{Table, Tidy, names_of, table_of}
 use Rattle.sheet.specs.own.Stands.{Since}
 use Rattle.field.specs.Words.{Field, body_of, form_of}
+use Rattle.field.specs.declared.known.Known.{Known}
+
+-- the table of the names that are known
+abbrev pub table_in : Known → Table
+table_in k = table_of k.numbers.now k.counts
 
 -- the line of a rule has the fields that are due
 abbrev pub RuleIfReady : List ℕ → Type 0

@@ -63,11 +63,10 @@ pub record Takes (W : ℕ) (sheet : List ℕ) (t : Table) (m : Marks) (s : List 
 abbrev pub Taken : ℕ → List ℕ → Table → Marks → List ℕ → (ℕ → Said → Said) → Table → Marks → List ℕ → Type 0
 Taken W sheet t m s more t' m' s' = (k : ℕ) (x : Said) → Stands W sheet t m s x → Stands W sheet t' m' s' (more k x)
 
--- a line that is no statement is to be taken, whatever sheet it is of, with the ends of its fields
-pub record TakesOther (W : ℕ) (t : Table) (m : Marks) (s : List ℕ) (start : ℕ) (line ends : List ℕ) : Type 0 where
+-- a line that is no statement is to be taken, whatever sheet it is of
+pub record TakesOther (W : ℕ) (t : Table) (m : Marks) (s : List ℕ) (start : ℕ) (line : List ℕ) : Type 0 where
   pub sheet : List ℕ
   pub takes : Takes W sheet t m s start line
-  pub looked : Looked line ends
   pub other : (w : StatementWord) → ¬ (form_of (fields line) ≡ form.Statement w)
 
 -- it was taken, of every such sheet

@@ -1,49 +1,38 @@
 -- `sheet::pass::next` meets its contract: no line from the first place to this one is that of a rule. Assumes nothing.
-use mathlib.Core.Path.{sym, ap}
-use Prim.Native.Nat.{ℕ, ◌-◌}
-use lib.ListN.{length}
-use lib.Seq.{length-take-le}
+use Rattle.std.proofs.Common.{ap, ℕ, ◌-◌, length, arith, rules}
 use Rattle.text.specs.own.Split.{part_of}
 use Rattle.text.specs.laws.Split.{end_ge, end-le}
 use Rattle.field.specs.laws.Looked.{looked}
 use Rattle.sheet.specs.laws.Pass.{passing-end, passing-on, passing-past, passing-ready, passing-rule, passing-short}
-use borrow.Author.Rules.{rules}
-use native.Mathlib.Omega.{arith}
 use Rattle.sheet.proofs.pass.next.Goals as goal
 
-pub loop-at-init : goal.loop-at-init
-loop-at-init c = ((λ x done p. p), omega arith, search rules)
+pub slice_bounds-fields-count : goal.slice_bounds-fields-count
+slice_bounds-fields-count c = omega (arith, c.look_from-s.ensures.end, end_ge 10 c.args.known.now.sheet.now c.loop-at.at)
 
-pub look_from-s-requires : goal.look_from-s-requires
-look_from-s-requires c = (omega (arith, c.loop-at-test.true), omega (arith, c.requires.1.passing.short))
+pub slice_bounds-fields-start : goal.slice_bounds-fields-start
+slice_bounds-fields-start c = omega (arith, c.look_from-s.ensures.end, end_ge 10 c.args.known.now.sheet.now c.loop-at.at)
 
-pub slice_bounds-rule_in-count : goal.slice_bounds-rule_in-count
-slice_bounds-rule_in-count c = omega (arith, c.look_from-s.ensures.end, end_ge 10 c.args.sheet.now c.loop-at.at)
+pub slice_bounds-fields-end : goal.slice_bounds-fields-end
+slice_bounds-fields-end c = omega (arith, c.look_from-s.ensures.end, end-le 10 c.args.known.now.sheet.now c.loop-at.at (omega (arith, c.loop-at-test.true)))
 
-pub slice_bounds-rule_in-start : goal.slice_bounds-rule_in-start
-slice_bounds-rule_in-start c = omega (arith, c.look_from-s.ensures.end, end_ge 10 c.args.sheet.now c.loop-at.at)
-
-pub slice_bounds-rule_in-end : goal.slice_bounds-rule_in-end
-slice_bounds-rule_in-end c = omega (arith, c.look_from-s.ensures.end, end-le 10 c.args.sheet.now c.loop-at.at (omega (arith, c.loop-at-test.true)))
-
-pub slice_bounds-rule_in-end-in-loop-at : goal.slice_bounds-rule_in-end-in-loop-at
-slice_bounds-rule_in-end-in-loop-at c = sym (length-take-le _ _ (omega (arith, c.lesser-n.ensures, c.look_from-s.auto.ends, c.loop-at.invariant.2)))
-
-pub overflow_add-end : goal.overflow_add-end
-overflow_add-end c = omega (arith, c.look_from-s.ensures.end, end-le 10 c.args.sheet.now c.loop-at.at (omega (arith, c.loop-at-test.true)), c.requires.1.passing.short)
-
-pub rule_in-q-requires : goal.rule_in-q-requires
-rule_in-q-requires c = let s = c.args.sheet.now in
-    let p = c.loop-at.invariant.0 _ _ c.requires.1.passing in
+pub invariant_of-fields : goal.invariant_of-fields
+invariant_of-fields c = let s = c.args.known.now.sheet.now in
+    let p = c.loop-at.invariant.0 _ _ c.requires.passing in
     let is = ap (λ (e : ℕ). part_of s c.loop-at.at (e - c.loop-at.at)) c.look_from-s.ensures.end in
     let short = passing-short p _ _ (omega (arith, c.loop-at-test.true)) c.look_from-s.ensures.end is in
-    (c.requires.0, rw is (looked c.look_from-s.ensures c.lesser-n.result (omega (arith, c.lesser-n.ensures, c.loop-at.invariant.2)) (omega (arith, short, ap length is, c.loop-at.invariant.2))), passing-ready p _ _ (omega (arith, c.loop-at-test.true)) c.look_from-s.ensures.end is)
+    record { looked = rw is (looked c.look_from-s.ensures c.min-n.result (omega (arith, c.min-n.ensures, c.loop-at.invariant.2)) (omega (arith, short, ap length is, c.loop-at.invariant.2))) }
+
+pub rule_in-q-requires : goal.rule_in-q-requires
+rule_in-q-requires c = let s = c.args.known.now.sheet.now in
+    let p = c.loop-at.invariant.0 _ _ c.requires.passing in
+    let is = ap (λ (e : ℕ). part_of s c.loop-at.at (e - c.loop-at.at)) c.look_from-s.ensures.end in
+    passing-ready p _ _ (omega (arith, c.loop-at-test.true)) c.look_from-s.ensures.end is
 
 pub returns-then-q : goal.returns-then-q
-returns-then-q c = let s = c.args.sheet.now in
+returns-then-q c = let s = c.args.known.now.sheet.now in
     let e = c.look_from-s.ensures.end in
     let is = ap (λ (k : ℕ). part_of s c.loop-at.at (k - c.loop-at.at)) e in
-    let past = passing-past (c.loop-at.invariant.0 _ _ c.requires.1.passing) _ _ (omega (arith, c.loop-at-test.true)) e is _ c.rule_in-q.ensures c.if-q.true in
+    let past = passing-past (c.loop-at.invariant.0 _ _ c.requires.passing) _ _ (omega (arith, c.loop-at-test.true)) e is _ c.rule_in-q.ensures c.if-q.true in
     record {
       rule = λ x done p. rw c.if-q.true (passing-rule (c.loop-at.invariant.0 x done p) _ _ (omega (arith, c.loop-at-test.true)) e is _ c.rule_in-q.ensures c.if-q.true);
       later = omega (arith, past, e, end_ge 10 s c.loop-at.at, c.loop-at.invariant.1);
@@ -51,23 +40,17 @@ returns-then-q c = let s = c.args.sheet.now in
     }
 
 pub overflow_add-line : goal.overflow_add-line
-overflow_add-line c = omega (arith, (c.loop-at.invariant.0 _ _ c.requires.1.passing).near, (c.loop-at.invariant.0 _ _ c.requires.1.passing).inside, c.requires.1.passing.short)
-
-pub overflow_add-at : goal.overflow_add-at
-overflow_add-at c = omega (arith, c.look_from-s.ensures.end, end-le 10 c.args.sheet.now c.loop-at.at (omega (arith, c.loop-at-test.true)), c.requires.1.passing.short)
+overflow_add-line c = omega (arith, (c.loop-at.invariant.0 _ _ c.requires.passing).near, (c.loop-at.invariant.0 _ _ c.requires.passing).inside, c.requires.passing.short)
 
 pub loop-at-smaller : goal.loop-at-smaller
-loop-at-smaller c = omega (arith, c.look_from-s.ensures.end, end_ge 10 c.args.sheet.now c.loop-at.at, c.loop-at-test.true)
+loop-at-smaller c = omega (arith, c.look_from-s.ensures.end, end_ge 10 c.args.known.now.sheet.now c.loop-at.at, c.loop-at-test.true)
 
 pub loop-at-preserved : goal.loop-at-preserved
-loop-at-preserved c = let s = c.args.sheet.now in
+loop-at-preserved c = let s = c.args.known.now.sheet.now in
     let e = c.look_from-s.ensures.end in
     let is = ap (λ (k : ℕ). part_of s c.loop-at.at (k - c.loop-at.at)) e in
     ((λ x done p. passing-on (c.loop-at.invariant.0 x done p) _ _ (omega (arith, c.loop-at-test.true)) e is _ c.rule_in-q.ensures c.if-q.false), omega (arith, e, end_ge 10 s c.loop-at.at, c.loop-at.invariant.1), search rules)
 
-pub overflow_add-sheet : goal.overflow_add-sheet
-overflow_add-sheet c = omega (arith, c.requires.1.passing.short)
-
 pub returns : goal.returns
 returns c = let e = c.no_rule.ensures in
-    record { rule = λ x done p. rw e.0 (passing-end (c.loop-at.invariant.0 x done p) (omega arith)); later = omega (arith, e.2, c.requires.1.passing.inside); inside = omega (arith, e.2) }
+    record { rule = λ x done p. rw e.0 (passing-end (c.loop-at.invariant.0 x done p) (omega arith)); later = omega (arith, e.2, c.requires.passing.inside); inside = omega (arith, e.2) }

@@ -3,13 +3,12 @@ use mathlib.Core.Path.{◌≡◌}
 use mathlib.Core.List.{List}
 use Prim.Native.Nat.{◌+◌, ◌-◌, ◌≤◌}
 use lib.ListN.{length}
-use Rattle.field.specs.own.Table.{table_of}
-use Rattle.sheet.specs.own.Pass.{Passing}
+use Rattle.sheet.specs.own.Pass.{Passing, table_in}
 use Rattle.sheet.specs.Said.{Said, SheetRule}
 use Rattle.sheet.proofs.pass.next.Given as goal
 
 abbrev pub invariant-loop-at : goal.invariant-loop-at
-invariant-loop-at l = ((x : Said) (done : List SheetRule) → Passing l.sheet (table_of l.names l.counts) x done l.from l.first → Passing l.sheet (table_of l.names l.counts) x done l.at l.line) × (l.from ≤ l.at) × (length l.ends ≡ 513)
+invariant-loop-at l = ((x : Said) (done : List SheetRule) → Passing l.known.sheet.now (table_in l.known) x done l.from l.first → Passing l.known.sheet.now (table_in l.known) x done l.at l.line) × (l.from ≤ l.at) × (length l.ends ≡ 513)
 
 abbrev pub decreases-loop-at : goal.decreases-loop-at
-decreases-loop-at l = length l.sheet + 1 - l.at
+decreases-loop-at l = length l.known.sheet.now + 1 - l.at

@@ -3,15 +3,15 @@ use mathlib.Core.Path.{◌≡◌}
 use mathlib.Core.List.{List}
 use Prim.Native.Nat.{◌+◌, ◌*◌, ◌-◌, ◌≤◌}
 use lib.ListN.{length}
-use Rattle.sheet.specs.own.Pass.{Counted}
+use Rattle.sheet.specs.own.Pass.{Counted, table_in}
 use Rattle.sheet.specs.Said.{Said, SheetRule, outcome}
 use Rattle.sheet.specs.Said.Outcome.{accepted}
-use Rattle.field.specs.own.Table.{names_of, table_of}
+use Rattle.field.specs.own.Known.{names_in}
 use Rattle.sheet.specs.laws.Count.{Turn}
 use Rattle.sheet.proofs.reads.count_all.Given as goal
 
 abbrev pub invariant-loop-q : goal.invariant-loop-q
-invariant-loop-q l = ((x : Said) → outcome l.at.width l.sheet ≡ accepted x → x.names ≡ names_of l.sheet (table_of l.names l.counts) → Turn l.sheet (table_of l.names l.counts) x (λ (done : List SheetRule). Counted l.at.width x l.words done l.total) l.q l.n) × (l.n ≤ l.q.past) × (l.q.past ≤ length l.sheet + 2) × (l.total ≤ 262656 * l.n)
+invariant-loop-q l = ((x : Said) → outcome l.at.width l.known.sheet.now ≡ accepted x → x.names ≡ names_in l.known → Turn l.known.sheet.now (table_in l.known) x (λ (done : List SheetRule). Counted l.at.width x l.words done l.total) l.q l.n) × (l.n ≤ l.q.past) × (l.q.past ≤ length l.known.sheet.now + 2) × (l.total ≤ 262656 * l.n)
 
 abbrev pub decreases-loop-q : goal.decreases-loop-q
-decreases-loop-q l = length l.sheet + 2 - l.q.past
+decreases-loop-q l = length l.known.sheet.now + 2 - l.q.past

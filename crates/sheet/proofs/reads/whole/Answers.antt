@@ -11,7 +11,7 @@ use native.Mathlib.Omega.{arith}
 use Rattle.sheet.proofs.reads.whole.Goals as goal
 
 pub returns-then-not-long : goal.returns-then-not-long
-returns-then-not-long c = whole-size _ _ _ _ _ (rw c.none-counts.ensures (none-tidy _ _ (omega (arith, c.requires)))) (c.long.ensures.fails c.if-not-long.true)
+returns-then-not-long c = whole-size _ _ _ _ _ (rw c.none.ensures (none-tidy _ _ (omega (arith, c.requires)))) (c.long.ensures.fails c.if-not-long.true)
 
 pub fill-e-requires : goal.fill-e-requires
 fill-e-requires c = let e = c.layout_of-at.ensures in

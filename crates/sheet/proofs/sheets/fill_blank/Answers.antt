@@ -6,14 +6,5 @@ use lib.Seq.{get_or-set_same}
 use Rattle.field.specs.own.Table.{room_at}
 use Rattle.sheet.proofs.sheets.fill_blank.Goals as goal
 
-pub allow-requires : goal.allow-requires
-allow-requires c = (omega (arith, c.requires.1), omega arith)
-
 pub returns-then-sheet-gt-BYTES : goal.returns-then-sheet-gt-BYTES
 returns-then-sheet-gt-BYTES c = rw c.too_long.ensures (opens-long _ _ _ _ (rw c.allow.ensures (omega (arith, c.requires.1, length-set c.args.names.now room_at 0))) (rw c.allow.ensures (get_or-set_same c.args.names.now room_at 0 0 (omega (arith, c.requires.1)))) c.if-sheet-gt-BYTES.true)
-
-pub fill_short-requires : goal.fill_short-requires
-fill_short-requires c = (omega (arith, c.if-sheet-gt-BYTES.false), c.requires.0, rw c.allow.ensures (omega (arith, c.requires.1, length-set c.args.names.now room_at 0)), rw c.allow.ensures (get_or-set_same c.args.names.now room_at 0 0 (omega (arith, c.requires.1))), c.requires.2, c.requires.3)
-
-pub returns : goal.returns
-returns c = c.fill_short.ensures _

@@ -24,5 +24,5 @@ returns-then-why-eq0 c = let room = ap room_of c.allow.ensures ∙ get_or-set_sa
     rw (header-on _ _ _ _ c.requires.0 c.end_of-end.ensures (c.header_fault-why.ensures ∙ ap (header_fault c.args.at.width) c.part-first.ensures) c.if-why-eq0.true, ← room) c.read_lines.ensures
 
 pub returns : goal.returns
-returns c = rw (c.blank-kept.ensures, c.requires.1)
+returns c = rw (c.blank.ensures, c.requires.1)
     (ends-header _ _ _ _ _ _ (blank_stands _ _ _ _ c.requires.2 c.requires.3 (omega arith)) (header-stop _ _ _ _ c.requires.0 c.end_of-end.ensures (c.header_fault-why.ensures ∙ ap (header_fault c.args.at.width) c.part-first.ensures) c.if-why-eq0.false) c.if-why-eq0.false)

@@ -1,10 +1,9 @@
 -- `sheet::sheets::read_lines` meets its contract. Assumes nothing.
 use native.Mathlib.Omega.{arith}
 use borrow.Author.Rules.{rules}
-use mathlib.Core.Path.{refl, sym, ap, ◌∙◌}
+use mathlib.Core.Path.{refl, ap, ◌∙◌}
 use Prim.Native.Nat.{ℕ, ◌-◌}
 use lib.ListN.{length}
-use lib.Seq.{length-take-le}
 use Rattle.text.specs.own.Split.{part_of}
 use Rattle.text.specs.laws.Split.{end_ge, end-le}
 use Rattle.field.specs.laws.Looked.{looked}
@@ -15,9 +14,6 @@ use Rattle.sheet.proofs.sheets.read_lines.Goals as goal
 pub loop-at-init : goal.loop-at-init
 loop-at-init c = (rw (c.blank-kept.ensures, c.requires.1) (reads-start _ _ _ _ _ c.requires.4 c.requires.2 refl c.requires.3), refl, refl, search rules)
 
-pub look_from-s-requires : goal.look_from-s-requires
-look_from-s-requires c = (omega (arith, c.loop-at-test.true), omega (arith, c.requires.0))
-
 pub slice_bounds-read-count : goal.slice_bounds-read-count
 slice_bounds-read-count c = omega (arith, c.look_from-s.ensures.end, end_ge 10 c.args.sheet.now c.loop-at.at)
 
@@ -27,19 +23,13 @@ slice_bounds-read-start c = omega (arith, c.look_from-s.ensures.end, end_ge 10 c
 pub slice_bounds-read-end : goal.slice_bounds-read-end
 slice_bounds-read-end c = omega (arith, c.look_from-s.ensures.end, end-le 10 c.args.sheet.now c.loop-at.at (omega (arith, c.loop-at-test.true)))
 
-pub slice_bounds-read-end-in-loop-at : goal.slice_bounds-read-end-in-loop-at
-slice_bounds-read-end-in-loop-at c = sym (length-take-le _ _ (omega (arith, c.lesser-n.ensures, c.look_from-s.auto.ends, c.loop-at.invariant.3)))
-
 pub read-r-requires : goal.read-r-requires
 read-r-requires c = let is = ap (λ (k : ℕ). part_of c.args.sheet.now c.loop-at.at (k - c.loop-at.at)) c.look_from-s.ensures.end in
-    (reads-comes c.requires.0 c.loop-at.invariant.0 _ (omega (arith, c.loop-at-test.true)) is (rw is c.look_from-s.ensures.good) (λ short. rw is (looked c.look_from-s.ensures c.lesser-n.result (omega (arith, c.lesser-n.ensures, c.loop-at.invariant.3)) (omega (arith, short, ap length is, c.loop-at.invariant.3)))), laid_of (laid-is c.requires.5) c.loop-at.invariant.0.stands.long c.requires.5.wide)
+    (reads-comes c.requires.0 c.loop-at.invariant.0 _ (omega (arith, c.loop-at-test.true)) is (rw is c.look_from-s.ensures.good) (λ short. rw is (looked c.look_from-s.ensures c.min-n.result (omega (arith, c.min-n.ensures, c.loop-at.invariant.3)) (omega (arith, short, ap length is, c.loop-at.invariant.3)))), laid_of (laid-is c.requires.5) c.loop-at.invariant.0.stands.long c.requires.5.wide)
 
 pub returns-then-r-ne0 : goal.returns-then-r-ne0
 returns-then-r-ne0 c = let is = ap (λ (k : ℕ). part_of c.args.sheet.now c.loop-at.at (k - c.loop-at.at)) c.look_from-s.ensures.end in
     reads-stop c.requires.0 c.loop-at.invariant.0 _ _ _ (omega (arith, c.loop-at-test.true)) c.look_from-s.ensures.end is {k' = c.read-r.result.kept} c.read-r.ensures c.if-r-ne0.true
-
-pub overflow_add-line : goal.overflow_add-line
-overflow_add-line c = omega (arith, c.loop-at.invariant.0.near, c.loop-at.invariant.0.inside, c.requires.0)
 
 pub overflow_add-at : goal.overflow_add-at
 overflow_add-at c = omega (arith, c.look_from-s.ensures.end, end-le 10 c.args.sheet.now c.loop-at.at (omega (arith, c.loop-at-test.true)), c.requires.0)
@@ -50,12 +40,6 @@ loop-at-smaller c = omega (arith, c.look_from-s.ensures.end, end_ge 10 c.args.sh
 pub loop-at-preserved : goal.loop-at-preserved
 loop-at-preserved c = let is = ap (λ (k : ℕ). part_of c.args.sheet.now c.loop-at.at (k - c.loop-at.at)) c.look_from-s.ensures.end in
     (reads_on c.requires.0 c.loop-at.invariant.0 _ _ _ (omega (arith, c.loop-at-test.true)) c.look_from-s.ensures.end is {k' = c.read-r.result.kept} c.read-r.ensures c.if-r-ne0.false c.start_from-start.ensures, c.read-r.auto.words ∙ c.loop-at.invariant.1, c.read-r.auto.names ∙ c.loop-at.invariant.2, c.look_from-s.auto.ends ∙ c.loop-at.invariant.3)
-
-pub shape_of-words : goal.shape_of-words
-shape_of-words c = c.loop-at.invariant.1
-
-pub shape_of-names : goal.shape_of-names
-shape_of-names c = c.loop-at.invariant.2
 
 pub returns : goal.returns
 returns c = reads_end c.requires.0 c.loop-at.invariant.0 (omega (arith, c.loop-at-test.false))

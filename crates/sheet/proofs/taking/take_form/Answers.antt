@@ -1,5 +1,5 @@
 -- `sheet::taking::take_form` meets its contract. Assumes nothing.
-use Rattle.sheet.specs.laws.Taken.{concept-declared, concept-room, concept-taken, item-declared, item-most, item-place, item_room, item-taken, line-near, role-declared, role-room, role-taken, rule-room, rule-taken, bare-taken, unknown-taken}
+use Rattle.sheet.specs.laws.Taken.{concept-declared, concept-room, concept-taken, item-declared, item-most, item-place, item_room, item-taken, line-near, role-declared, role-room, role-taken, rule-room, rule-taken, other-taken}
 use mathlib.Core.Path.{sym, ◌∙◌}
 use native.Mathlib.Omega.{arith}
 use Rattle.line.specs.Fault.{begun}
@@ -9,53 +9,40 @@ use Rattle.sheet.proofs.taking.take_form.Goals as goal
 pub declare-requires : goal.declare-requires
 declare-requires c = let q = c.requires.0.takes in
     let s = c.requires.1 in
-    let f = c.form-f.ensures in
+    let f = c.form.ensures in
     let e = c.in-Concept.is in
-    (omega (arith, concept-room q s _ f e, q.stands.tidy.long), omega (arith, concept-room q s _ f e), c.requires.0.looked, concept-declared q s _ f e, line-near q, omega arith)
-
-pub overflow_add-counts : goal.overflow_add-counts
-overflow_add-counts c = omega (arith, concept-room c.requires.0.takes c.requires.1 _ c.form-f.ensures c.in-Concept.is)
+    (omega (arith, concept-room q s _ f e, q.stands.tidy.long), omega (arith, concept-room q s _ f e), concept-declared q s _ f e, line-near q, omega arith)
 
 pub declare-requires-in-Role : goal.declare-requires-in-Role
 declare-requires-in-Role c = let q = c.requires.0.takes in
     let s = c.requires.1 in
-    let f = c.form-f.ensures in
+    let f = c.form.ensures in
     let e = c.in-Role.is in
-    (omega (arith, role-room q s _ f e, q.stands.tidy.long), omega (arith, role-room q s _ f e), c.requires.0.looked, role-declared q s _ f e, line-near q, omega arith)
-
-pub overflow_add-counts-in-Role : goal.overflow_add-counts-in-Role
-overflow_add-counts-in-Role c = omega (arith, role-room c.requires.0.takes c.requires.1 _ c.form-f.ensures c.in-Role.is)
+    (omega (arith, role-room q s _ f e, q.stands.tidy.long), omega (arith, role-room q s _ f e), role-declared q s _ f e, line-near q, omega arith)
 
 pub declare-requires-in-Item : goal.declare-requires-in-Item
 declare-requires-in-Item c = let q = c.requires.0.takes in
     let s = c.requires.1 in
-    let f = c.form-f.ensures in
+    let f = c.form.ensures in
     let e = c.in-Item.is in
-    (omega (arith, item_room q s _ f e, item-place q s _ f e), omega (arith, item_room q s _ f e, item-most q s _ f e c.requires.2.wide), c.requires.0.looked, item-declared q s _ f e, line-near q, omega arith)
-
-pub overflow_add-counts-in-Item : goal.overflow_add-counts-in-Item
-overflow_add-counts-in-Item c = omega (arith, item_room c.requires.0.takes c.requires.1 _ c.form-f.ensures c.in-Item.is, item-most c.requires.0.takes c.requires.1 _ c.form-f.ensures c.in-Item.is c.requires.2.wide)
+    (omega (arith, item_room q s _ f e, item-place q s _ f e), omega (arith, item_room q s _ f e, item-most q s _ f e c.requires.2.wide), item-declared q s _ f e, line-near q, omega arith)
 
 pub take_rule-requires : goal.take_rule-requires
-take_rule-requires c = (stopped-zero _ (begun c.args.k.marks) _ _ c.requires.0.takes.stands.store, stands-fits c.requires.0.takes.stands, rule-room c.requires.0.takes c.requires.1 _ c.form-f.ensures _ c.in-Rule.is, c.requires.2)
+take_rule-requires c = (stopped-zero _ (begun c.args.k.marks) _ _ c.requires.0.takes.stands.store, stands-fits c.requires.0.takes.stands, rule-room c.requires.0.takes c.requires.1 _ c.form.ensures _ c.in-Rule.is, c.requires.2)
 
 pub returns-in-Concept : goal.returns-in-Concept
-returns-in-Concept c = λ sheet tk. concept-taken tk c.requires.1 _ c.form-f.ensures c.in-Concept.is _ _ c.requires.0.looked c.declare.ensures
+returns-in-Concept c = λ sheet tk. concept-taken tk c.requires.1 _ c.form.ensures c.in-Concept.is _ _ c.args.fields.now.looked c.declare.ensures
 
 pub returns-in-Role : goal.returns-in-Role
-returns-in-Role c = λ sheet tk. role-taken tk c.requires.1 _ c.form-f.ensures c.in-Role.is _ _ c.requires.0.looked c.declare-in-Role.ensures
+returns-in-Role c = λ sheet tk. role-taken tk c.requires.1 _ c.form.ensures c.in-Role.is _ _ c.args.fields.now.looked c.declare-in-Role.ensures
 
 pub returns-in-Item : goal.returns-in-Item
-returns-in-Item c = λ sheet tk. item-taken tk c.requires.1 _ c.form-f.ensures c.in-Item.is c.requires.2.wide _ _ c.requires.0.looked c.declare-in-Item.ensures
-
-pub returns-in-Statement : goal.returns-in-Statement
-returns-in-Statement c = absurd (c.requires.0.other _ (sym c.form-f.ensures ∙ c.in-Statement.is))
+returns-in-Item c = λ sheet tk. item-taken tk c.requires.1 _ c.form.ensures c.in-Item.is c.requires.2.wide _ _ c.args.fields.now.looked c.declare-in-Item.ensures
 
 pub returns-in-Rule : goal.returns-in-Rule
-returns-in-Rule c = λ sheet tk. rw c.take_rule.ensures.0 (rule-taken tk c.requires.1 _ c.form-f.ensures _ c.in-Rule.is c.take_rule.ensures.1)
+returns-in-Rule c = λ sheet tk. rw c.take_rule.ensures.0 (rule-taken tk c.requires.1 _ c.form.ensures _ c.in-Rule.is c.take_rule.ensures.1)
 
-pub returns-in-Bare : goal.returns-in-Bare
-returns-in-Bare c = λ sheet tk. bare-taken tk c.requires.1 _ c.form-f.ensures c.in-Bare.is
-
-pub returns-in-Unknown : goal.returns-in-Unknown
-returns-in-Unknown c = λ sheet tk. unknown-taken tk c.requires.1 _ c.form-f.ensures c.in-Unknown.is
+pub returns-in_default : goal.returns-in_default
+returns-in_default c = λ sheet tk.
+    let d = c.in_default in
+    other-taken tk c.requires.1 _ c.form.ensures d.not-Concept d.not-Role d.not-Item d.not-Rule (λ w e. c.requires.0.other w (sym c.form.ensures ∙ e))
