@@ -40,15 +40,10 @@ fn write(out: &mut [u64], n: usize, words: &[u64], first: Search)
     ensures { Written words.now first n out.old out.new }
 {
     let mut c = first;
-    let mut i = 0;
-    while i < n {
-        let f = c.finding;
-        let a = f.item;
-        out[2 * i] = a.0 as u64;
-        let s = f.second;
-        out[2 * i + 1] = second(s);
+    for i in 0..n {
+        out[2 * i] = c.finding.item.0 as u64;
+        out[2 * i + 1] = second(c.finding.second);
         c = judge::seek::step(words, c);
-        i += 1;
     }
 }
 
@@ -58,9 +53,6 @@ pub fn findings(words: &[u64], counts: Counts, given: &[u64], out: &mut [u64]) -
 {
     let u = spelled::rules::rule_of(given);
     let p = judge::seek::prepare(words, counts, 0, u, out.len() / 2);
-    let n = p.write;
-    let c = p.search;
-    let t = p.answer;
-    write(out, n, words, c);
-    code(t)
+    write(out, p.write, words, p.search);
+    code(p.answer)
 }

@@ -28,5 +28,5 @@ pub fn compile(counts: Counts, given: &[u64], room: &mut [u16]) -> i64
     ensures { CompileCode counts given.now room.old room.new result }
 {
     let u = spelled::rules::rule_of(given);
-    code(Query::compile(counts, u, room))
+    code(Query::compile(counts, &u, room))
 }

@@ -1,5 +1,5 @@
 -- Laws of what an expression holds of: it can be told. Assumes nothing.
-use mathlib.Core.Logic.Dec
+use Rattle.std.proofs.Math.Logic.Dec
 use Rattle.std.specs.Prelude.{Bool, true, false, List, ℕ}
 use Rattle.store.specs.declared.Counts.{Counts}
 use Rattle.store.specs.Cell.{Cell, Obeys}

@@ -16,9 +16,6 @@ returns-then-not-rule_within c = refused (refused-4 (c.fits.ensures.holds c.if-n
 pub returns-then-n-gt-ITEMS : goal.returns-then-n-gt-ITEMS
 returns-then-n-gt-ITEMS c = long-refused _ _ _ _ (c.fits.ensures.holds c.if-not-fits.false) (c.well_formed-2.ensures.holds c.if-not-well_formed.false) (c.rule_within.ensures.holds c.if-not-rule_within.false) c.rule_length-n.ensures c.if-n-gt-ITEMS.true
 
-pub overflow_mul-n : goal.overflow_mul-n
-overflow_mul-n c = omega (arith, c.rule_length-n.ensures.bound)
-
 pub returns-then-room-n : goal.returns-then-room-n
 returns-then-room-n c = room-refused _ _ _ _ (c.fits.ensures.holds c.if-not-fits.false) (c.well_formed-2.ensures.holds c.if-not-well_formed.false) (c.rule_within.ensures.holds c.if-not-rule_within.false) c.rule_length-n.ensures (omega (arith, c.if-n-gt-ITEMS.false)) c.if-room-n.true
 
