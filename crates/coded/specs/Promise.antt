@@ -9,7 +9,7 @@ use Rattle.std.specs.Prelude.{None, Some}
 use Rattle.rule.specs.Findings.{Findings}
 use Rattle.judge.specs.Promise.{Judged, RuleFault}
 use Rattle.query.specs.Outcome.{Outcome}
-use Rattle.std.specs.Prelude.{Err}
+use Rattle.std.specs.Prelude.{Err, Ok}
 use Rattle.query.specs.Promise.{number, Compiles}
 use Rattle.spelled.specs.Rules.{rule_of}
 

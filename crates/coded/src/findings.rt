@@ -2,27 +2,11 @@
 ghost use Rattle.std.specs.Prelude.{◌*◌, ◌<◌, ◌≤◌, ◌≡◌, length};
 ghost use Rattle.judge.specs.own.Search.{Ready};
 ghost use Rattle.coded.specs.Promise.{ListCode, second_word};
-ghost use Rattle.coded.specs.own.Writing.{SmallTotal, Written, total_code};
+ghost use Rattle.coded.specs.own.Writing.{Written};
 
 use crate::Coded;
-use judge::{RuleRefusal, Search};
+use judge::Search;
 use store::{Counts, Item};
-
-// The number of findings, or minus the number of refusal.
-fn code(t: Result<u64, RuleRefusal>) -> i64
-    requires { SmallTotal t }
-    ensures { result ≡ total_code t }
-{
-    match t {
-        Ok(m) => m as i64,
-        Err(k) => match k {
-            RuleRefusal::Size => -1,
-            RuleRefusal::NotClosed => -2,
-            RuleRefusal::Malformed => -3,
-            RuleRefusal::Number => -4,
-        },
-    }
-}
 
 // The word of a second item.
 fn second(s: Option<Item>) -> u64
@@ -54,5 +38,5 @@ pub fn findings(words: &[u64], counts: Counts, given: &[u64], out: &mut [u64]) -
     let u = spelled::rules::rule_of(given);
     let p = judge::seek::prepare(words, counts, 0, u, out.len() / 2);
     write(out, p.write, words, p.search);
-    code(p.answer)
+    refusal::signed(p.answer)
 }

@@ -4,6 +4,7 @@ ghost use Rattle.coded.specs.Promise.{CompileCode, outcome_code};
 ghost use Rattle.coded.specs.own.Writing.{SmallOutcome};
 
 use query::{Compiled, Query, QueryRefusal};
+use refusal::Numbered;
 use store::Counts;
 
 // The answer of compiling as a number.
@@ -13,13 +14,7 @@ fn code(r: Result<Compiled, QueryRefusal>) -> i64
 {
     match r {
         Ok(c) => (4 * c.items + c.answers) as i64,
-        Err(k) => match k {
-            QueryRefusal::Size => -1,
-            QueryRefusal::Malformed => -3,
-            QueryRefusal::Number => -4,
-            QueryRefusal::Long => -5,
-            QueryRefusal::Room => -6,
-        },
+        Err(k) => -i64::from(k.number()),
     }
 }
 

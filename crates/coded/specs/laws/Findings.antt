@@ -1,5 +1,5 @@
 -- Laws of findings as words: what the writer leaves, and that any two results allowed are equal. Assumes nothing.
-use Rattle.std.specs.Prelude.{◌≡◌, refl, List, [], ◌∷◌, ◌++◌, ℕ, suc, min, ◌+◌, ◌*◌, ◌/◌, ◌≤◌, ◌<◌, ℤ, pos, neg_ℤ, length, get_or, set, take, drop}
+use Rattle.std.specs.Prelude.{◌≡◌, refl, List, [], ◌∷◌, ◌++◌, ℕ, suc, min, ◌+◌, ◌*◌, ◌/◌, ◌≤◌, ◌<◌, ℤ, pos, neg_ℤ, length, get_or, set, take, drop, ◌<◌, ◌^◌}
 use Rattle.std.proofs.Common.{sym, ap, ◌∙◌, subst, add-one, arith, length-append, drop-cons}
 use Rattle.std.proofs.Math.Seq.{append_snoc}
 use Rattle.std.proofs.lemmas.List.{set_at}
@@ -20,6 +20,8 @@ use Rattle.rule.specs.laws.Few.{few-findings}
 use Rattle.coded.specs.Promise.{ListCode, pair_words, second_word}
 use Rattle.coded.specs.Promise.ListCode.{refused, listed}
 use Rattle.spelled.specs.Rules.{rule_of}
+use Rattle.std.specs.Result.{ForOk}
+use Rattle.refusal.specs.laws.Signed.{at_most-fits}
 use Rattle.coded.specs.own.Writing.{SmallTotal, Written, WroteTo, most_items, total_code}
 
 -- two words a finding
@@ -72,6 +74,10 @@ wrote-more {l = l} {i = i} {c = c} {m = m} h w t =
 pub small-total : {s : List ℕ} {n : Counts} {k : ℕ} {u : Rule} {room : ℕ} {p : Prepared} → Opens s n k u room p → SmallTotal p.answer
 small-total (not_opened l e z) = subst SmallTotal (sym e) tt
 small-total {s} {n} (judged d f e z c) = let few : n.items ≤ most_items = omega (arith, d.store.fits.items, width-wide s) in subst SmallTotal (sym e) (few-findings few f)
+
+-- and can be a signed number
+pub total-fits : {s : List ℕ} {n : Counts} {k : ℕ} {u : Rule} {room : ℕ} {p : Prepared} → Opens s n k u room p → ForOk p.answer (λ m. m < 2 ^ 63)
+total-fits {p = p} o = at_most-fits p.answer (omega arith) (small-total o)
 
 -- the writer's work is the promise
 pub list-by : {n : Counts} {s g before after : List ℕ} {p : Prepared} {r : ℤ} → Prepares s n 0 (rule_of g) (length before / 2) p → Written s p.search p.write before after → r ≡ total_code p.answer

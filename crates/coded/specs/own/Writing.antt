@@ -1,10 +1,11 @@
 -- Findings written one after the other, and answers that fit a signed word.
-use Rattle.std.specs.Prelude.{◌≡◌, List, ◌++◌, ℕ, suc, ◌*◌, ◌≤◌, ℤ, pos, neg_ℤ, length, drop}
+use Rattle.std.specs.Prelude.{◌≡◌, List, ◌++◌, ℕ, suc, ◌*◌, ◌≤◌, ℤ, length, drop}
 use Rattle.store.specs.Layout as stored
 use Rattle.rule.specs.declared.Finding.{Finding}
 use Rattle.judge.specs.declared.Search.{Search}
 use Rattle.judge.specs.Total.{Total}
 use Rattle.std.specs.Prelude.{Err, Ok}
+use Rattle.refusal.specs.Signed.{AtMost, signed_of}
 use Rattle.judge.specs.Promise.{number}
 use Rattle.judge.specs.own.Search.{Met}
 use Rattle.query.specs.Outcome.{Outcome}
@@ -25,8 +26,7 @@ pub record Written (s : List ℕ) (first : Search) (n : ℕ) (l m : List ℕ) : 
 
 -- the number of findings, or minus the number of refusal
 abbrev pub total_code : Total → ℤ
-total_code (Ok m) = pos m
-total_code (Err k) = neg_ℤ (pos (number k))
+total_code = signed_of number
 
 -- the most items of any store
 abbrev pub most_items : ℕ
@@ -34,8 +34,7 @@ most_items = stored.item_limit stored.large
 
 -- a total of the findings that one rule can have
 abbrev pub SmallTotal : Total → Type 0
-SmallTotal (Ok m) = m ≤ most_items * suc most_items
-SmallTotal (Err k) = Unit {0}
+SmallTotal = AtMost (most_items * suc most_items)
 
 -- an answer of compiling of the size that a query can have
 abbrev pub SmallOutcome : Outcome → Type 0
