@@ -46,11 +46,9 @@ fn turns(
     requires { (at ≡ layout_of (width_of words.old)) × ClosedStore (width_of words.old) counts words.old × (4 * count ≤ length statements.now) × (count ≤ length answers.old) }
     ensures { Answered counts statements.now answers.old answers.new words.old words.new count }
 {
-    let mut i = 0;
-    while i < count {
+    for i in 0..count {
         let s = statement(statements, i);
         answers[i] = turn(words, at, counts, s);
-        i += 1;
     }
 }
 
@@ -59,11 +57,7 @@ fn fill(answers: &mut [i64], count: usize, r: i64)
     requires { count ≤ length answers.old }
     ensures { Filled r count answers.old answers.new }
 {
-    let mut i = 0;
-    while i < count {
-        answers[i] = r;
-        i += 1;
-    }
+    answers[..count].fill(r);
 }
 
 // Adds the statements, as many as have a place for their answers, one after the other, and says how many they are.

@@ -12,45 +12,33 @@ fn copy(s: &[u64], from: usize, t: &mut [u64], to: usize, count: usize)
     requires { (from + count ≤ length s.now) × (to + count ≤ length t.old) }
     ensures { Mapped (copy_f s.now from to) to (to + count) t.old t.new }
 {
-    let mut h = 0;
-    while h < count {
-        t[to + h] = s[from + h];
-        h += 1;
-    }
+    t[to..to + count].copy_from_slice(&s[from..from + count]);
 }
 
 // The `count` rows of s at `from`, of `old` words each, go to the rows of t at `to`, of `new` words each, as far as these reach.
+#[tactic(auto, using(row::specs::laws::Rows::row_within))]
 fn rows(s: &[u64], from: usize, old: usize, t: &mut [u64], to: usize, new: usize, count: usize)
     requires { (from + count * old ≤ length s.now) × (to + count * new ≤ length t.old) }
     ensures { RowsMoved s.now from old to new count t.old t.new }
 {
-    let words = row::number::lesser(old, new);
-    let mut x = 0;
-    let mut a = from;
-    let mut b = to;
-    while x < count {
-        copy(s, a, t, b, words);
-        x += 1;
-        a += old;
-        b += new;
+    let words = old.min(new);
+    for x in 0..count {
+        copy(s, from + x * old, t, to + x * new, words);
     }
 }
 
 // The rows of the declared items, in the block of each declared role, go to those of the other store.
+#[tactic(auto, using(row::specs::laws::Rows::row_within))]
 fn links(s: &[u64], from: Layout, t: &mut [u64], to: Layout, counts: Counts)
     requires { Laid from s.now × Laid to t.old × Fits from.width counts × Fits to.width counts }
     ensures { BlocksMoved s.now from.link from.width to.link to.width counts.items counts.roles t.old t.new }
 {
     let old = from.width;
     let new = to.width;
-    let mut r = 0;
-    let mut a = from.link;
-    let mut b = to.link;
-    while r < counts.roles {
+    for r in 0..counts.roles {
+        let a = from.link + r * (64 * old * old);
+        let b = to.link + r * (64 * new * new);
         rows(s, a, old, t, b, new, counts.items);
-        r += 1;
-        a += 64 * old * old;
-        b += 64 * new * new;
     }
 }
 
@@ -59,15 +47,13 @@ fn parts(s: &[u64], from: Layout, t: &mut [u64], to: Layout, counts: Counts)
     requires { Laid from s.now × Laid to t.old × Fits from.width counts × Fits to.width counts }
     ensures { Carried from to counts s.now t.old t.new }
 {
-    let under = from.under;
-    let place = to.under;
     rewrite::change::zero_all(t);
     rows(s, 0, from.width, t, 0, to.width, counts.items);
     copy(
         s,
-        under,
+        from.under,
         t,
-        place,
+        to.under,
         Store::CONCEPTS + Store::ROLES + counts.items,
     );
     links(s, from, t, to, counts);

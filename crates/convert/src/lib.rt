@@ -41,22 +41,19 @@ fn other(width: usize) -> usize
     ensures { result ≡ other_width width }
 {
     if width == Store::LARGE {
-        return Store::SMALL;
+        Store::SMALL
+    } else {
+        Store::LARGE
     }
-    Store::LARGE
 }
 
 // Whether the two have the two lengths, and the counts are within the source's limits.
 fn pair(source: &[u64], counts: Counts, target: &[u64]) -> bool
     ensures { Decides result (Pair counts source.now target.now) }
 {
-    if !store::size::sized(source, counts) {
-        return false;
-    }
-    if !store::size::long(target) {
-        return false;
-    }
-    store::size::width(target) == other(store::size::width(source))
+    store::size::sized(source, counts)
+        && store::size::long(target)
+        && store::size::width(target) == other(store::size::width(source))
 }
 
 // Whether an item is declared that a store whose item rows have so many words has no place for.

@@ -1,10 +1,10 @@
 -- Laws of rows copied from one list of words to another. Assumes nothing.
-use Rattle.std.specs.Prelude.{◌≡◌, List, ℕ, ◌+◌, ◌-◌, ◌*◌, ◌≤◌, ◌<◌, min, get_or, length}
+use Rattle.std.specs.Prelude.{◌≡◌, List, ℕ, ◌+◌, ◌-◌, ◌*◌, ◌≤◌, ◌<◌, min, get_or, length, take, drop, ◌++◌}
 use Rattle.std.proofs.Math.Path.{refl}
-use Rattle.std.proofs.Common.{sym, ap, ◌∙◌, mul-le-mul_right}
-use native.Mathlib.Omega.{arith}
+use Rattle.std.proofs.Common.{sym, ap, ◌∙◌, arith, length-append, length-take, length-drop, get_or-take, get_or-drop, mul-le-mul_right}
 use Rattle.std.proofs.Math.Nat.{add-sub_cancel_left}
-use borrow.Author.Tests.{lt-ltb, le-ltb}
+use Rattle.std.proofs.lemmas.List.{get_or_append_left, get_or-append_right}
+use Rattle.std.proofs.lemmas.Bool.{lt-ltb, le-ltb}
 use Rattle.row.specs.own.Change.{Mapped}
 use Rattle.row.specs.laws.Mapped.{mapped-append, mapped-done, mapped-none, mapped-pass, mapped-same}
 use Rattle.row.specs.laws.Rows.{place, row_last, row_lt, row_next, row_within}
@@ -25,6 +25,33 @@ copy-here s from to h w v e = e ∙ rw (add-sub_cancel_left to h) refl
 pub copy-word : (s : List ℕ) (from to h i w : ℕ) → i ≡ to + h → copy_f s from to i w ≡ get_or s (from + h) 0
 unfolding copy_f
 copy-word s from to h i w e = let d : i - to ≡ h = omega arith in ap (λ (x : ℕ). get_or s (from + x) 0) d
+
+-- a part of t that a part of s is written over
+pub part-copied : (s t : List ℕ) {ys : List ℕ} (from to count j k : ℕ) → from + count ≤ length s → to + count ≤ length t → j ≡ count → k ≡ count → ys ≡ take j (drop from s)
+    → Mapped (copy_f s from to) to (to + count) t (take to t ++ (ys ++ drop k (drop to t)))
+part-copied s t {ys} from to count j k ls lt ej ek e = record {
+  len = simp (length-append, length-take, length-drop) (omega (arith, long));
+  inside = λ i h l.
+      get_or-append_right (take to t) _ to i 0 low h
+      ∙ get_or_append_left ys _ 0 (i - to) (omega (arith, long))
+      ∙ ap (λ (l : List ℕ). get_or l (i - to) 0) e
+      ∙ get_or-take j (drop from s) (i - to) 0 (omega arith)
+      ∙ get_or-drop from s (i - to) 0
+      ∙ sym (copy-word s from to (i - to) i (get_or t i 0) (omega arith));
+  below = λ i h. get_or_append_left (take to t) _ 0 i (omega (arith, low)) ∙ get_or-take to t i 0 h;
+  above = λ i h.
+      get_or-append_right (take to t) _ to i 0 low (omega arith)
+      ∙ get_or-append_right ys _ count (i - to) 0 long (omega arith)
+      ∙ get_or-drop k (drop to t) (i - to - count) 0
+      ∙ get_or-drop to t (k + (i - to - count)) 0
+      ∙ ap (λ (x : ℕ). get_or t x 0) (omega arith);
+}
+  where
+    low : length (take to t) ≡ to
+    low = length-take to t ∙ omega arith
+
+    long : length ys ≡ count
+    long = ap length e ∙ length-take j (drop from s) ∙ omega (arith, length-drop from s)
 
 -- ---- stretches
 
