@@ -8,7 +8,7 @@ ghost use Rattle.std.specs.Prelude.{◌≤◌, length};
 ghost use Rattle.store.specs.Cell.{cell_of};
 ghost use Rattle.store.specs.Layout.{width_of};
 ghost use Rattle.sheet.specs.own.Pass.{Accepts};
-ghost use Rattle.field.specs.own.Table.{Tidy, number_count, table_of};
+ghost use Rattle.field.specs.own.Table.{number_count, table_of};
 ghost use Rattle.reason.specs.own.Promise.{Lent};
 ghost use Rattle.why.specs.own.Asked.{Asked};
 ghost use Rattle.why.specs.own.Gather.{Searched};
@@ -16,14 +16,15 @@ ghost use Rattle.why.specs.Promise.{Explains};
 ghost use Rattle.why.specs.own.Writing.{Answered, Lists, PutIf};
 
 use field::Table;
+use field::known::Known;
 use reason::Lines;
 use sheet::Refused;
-use store::{Counts, Statement, Store};
+use store::view::View;
+use store::{Statement, Store};
 
-// The next statement of a sheet: whether there is one, the number of its line, the place past that line, and the statement.
+// A statement of a sheet: the number of its line, the place past that line, and the statement.
 #[derive(Clone, Copy)]
 pub struct StatementLine {
-    pub found: bool,
     pub line: usize,
     pub past: usize,
     pub statement: Statement,
@@ -50,49 +51,42 @@ fn put(list: &mut [u32], i: usize, line: usize, on: bool) -> usize
     }
     if i < list.len() {
         list[i] = line as u32;
-        return i + 1;
     }
     i + 1
 }
 
 // Lists the lines of the statements marked, as far as the list reaches; says how many they are in all.
-fn write(
-    sheet: &[u8],
-    names: &[u32],
-    counts: Counts,
-    marks: &[u64; Lines::WORDS],
-    list: &mut [u32],
-) -> usize
-    requires { Tidy sheet.now (table_of names.now counts) × Accepts sheet.now (table_of names.now counts) }
-    ensures { Lists sheet.now (table_of names.now counts) marks.now list.old list.new result }
+fn write(known: &Known, marks: &[u64; Lines::WORDS], list: &mut [u32]) -> usize
+    requires { Accepts known.now.sheet.now (table_of known.now.numbers.now known.now.counts) }
+    ensures { Lists known.now.sheet.now (table_of known.now.numbers.now known.now.counts) marks.now list.old list.new result }
 {
-    let mut q = stating::first(sheet, names, counts);
+    let mut at = stating::second_line(known.sheet);
+    let mut line = 2;
     let mut n = 0;
     let mut total = 0;
-    while q.found {
+    while let Some(q) = stating::next(known, at, line) {
         total = put(list, total, q.line, reason::marks::has(marks, n));
         n += 1;
-        q = stating::next(sheet, names, counts, q.past, q.line + 1);
+        at = q.past;
+        line = q.line + 1;
     }
     total
 }
 
 // Lists a reason for a cell that follows from the statements of an accepted sheet; says how many lines it has. The words lent have room for a row of `width` words for each item.
 pub fn list(
-    sheet: &[u8],
-    names: &[u32],
-    counts: Counts,
+    known: &Known,
     cell: Statement,
     table: &mut [u64],
     width: usize,
     room: &mut [u32],
 ) -> usize
-    requires { Asked sheet.now (table_of names.now counts) (cell_of cell) × Searched width counts table.old }
-    ensures { Answered sheet.now (table_of names.now counts) (cell_of cell) room.old room.new result }
+    requires { Asked known.now.sheet.now (table_of known.now.numbers.now known.now.counts) (cell_of cell) × Searched width known.now.counts table.old }
+    ensures { Answered known.now.sheet.now (table_of known.now.numbers.now known.now.counts) (cell_of cell) room.old room.new result }
 {
     let mut marks = [0u64; Lines::WORDS];
-    gather::reasoned(sheet, names, counts, cell, table, width, &mut marks);
-    write(sheet, names, counts, &marks, room)
+    gather::reasoned(known, cell, table, width, &mut marks);
+    write(known, &marks, room)
 }
 
 // Reads a sheet into the lent store, with numbers lent for its names and words for the search, and lists a reason for a cell, or says why not.
@@ -115,15 +109,24 @@ fn answer(
     if e.why != 0 {
         return Err(Refused { line: e.line, why: e.why });
     }
-    let kept = e.kept;
-    let counts = kept.counts;
-    if !store::look::told(words, at, counts, cell) {
+    let known = Known {
+        sheet,
+        numbers: names,
+        counts: e.kept.counts,
+    };
+    let view = View {
+        words,
+        at,
+        counts: known.counts,
+    };
+    if !view.told(cell) {
         return Err(Refused { line: 0, why: 24 });
     }
-    Ok(list(sheet, names, counts, cell, table, at.width, room))
+    Ok(list(&known, cell, table, at.width, room))
 }
 
 // The same with a lent store that may be the larger one. A list of no place is answered as one of one place: a function that calls itself keeps its words off its caller's stack.
+// Not one generic function with `explain`: that one would call itself for the smaller store too, and say in a clause what its two sizes must fit, in more lines than the two have.
 fn explain_large(sheet: &[u8], words: &mut [u64], cell: Statement, room: &mut [u32]) -> Result<usize, Refused>
     ensures { Explains sheet.now words.old words.new (cell_of cell) room.old room.new result }
 {

@@ -1,5 +1,5 @@
 -- `why::answer` meets its contract. Assumes nothing.
-use mathlib.Core.Path.{refl}
+use Rattle.std.proofs.Common.{refl}
 use Rattle.store.specs.Cell.{cell_of}
 use Rattle.store.specs.laws.Laid.{laid_of}
 use Rattle.store.specs.laws.Width.{laid_by, width-wide}

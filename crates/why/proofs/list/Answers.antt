@@ -1,6 +1,6 @@
 -- `why::list` meets its contract. Assumes nothing.
-use Prim.Native.Nat.{ℕ}
-use lib.ListN.{length-replicate}
+use Rattle.std.proofs.Common.{ℕ}
+use Rattle.std.proofs.lemmas.List.{length-replicate}
 use Rattle.reason.specs.own.Picked.{mark_words}
 use Rattle.reason.specs.laws.Picked.{clear-zeros}
 use Rattle.why.specs.laws.Explained.{answered}
@@ -8,9 +8,6 @@ use Rattle.why.proofs.list.Goals as goal
 
 pub reasoned-requires : goal.reasoned-requires
 reasoned-requires c = (c.requires.0, length-replicate {A = ℕ} mark_words 0, clear-zeros mark_words, c.requires.1)
-
-pub write-requires : goal.write-requires
-write-requires c = (c.requires.0.tidy, c.requires.0.sheet_said)
 
 pub returns : goal.returns
 returns c = answered c.reasoned.ensures c.write.ensures

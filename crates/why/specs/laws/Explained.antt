@@ -57,7 +57,7 @@ module _ {sheet s numbers u : List ℕ} {e : Ended} (w : Opens (width_of s) shee
         (subst (λ (n : Counts). FollowsFrom n c w.said.statements) counts-are ((opens-held w z).sound c (rw counts-are h)))
 
     pub explains-asked : Holds (width_of s) e.kept.counts u c → Asked sheet (kept_table numbers e) c
-    explains-asked h = record { tidy = w.tidy; sheet_said = explains-accepts; follows = explains-followed h }
+    explains-asked h = record { sheet_said = explains-accepts; follows = explains-followed h }
 
     -- a reason is found
     pub explains-found : {after : List ℕ} {r : ℕ} → Answered sheet (kept_table numbers e) c before after r → Explains sheet s u c before after (Ok r)

@@ -1,5 +1,5 @@
 -- A sheet has no more statements than there are marks: the line of each has at least five bytes with its line feed. Assumes nothing.
-use Rattle.std.specs.Prelude.{◌≡◌, refl, true, List, [], ◌∷◌, ℕ, suc, ◌+◌, ◌*◌, ◌-◌, ◌≤◌, ◌<◌, length}
+use Rattle.std.specs.Prelude.{◌≡◌, refl, Some, List, [], ◌∷◌, ℕ, suc, ◌+◌, ◌*◌, ◌-◌, ◌≤◌, ◌<◌, length}
 use Rattle.std.proofs.Common.{sym, ap, ◌∙◌, zero-le, arith, length-append}
 use Rattle.text.specs.own.Split.{part_of, end_of, parts_from}
 use Rattle.text.specs.Split.{fields, split}
@@ -16,7 +16,7 @@ use Rattle.line.proofs.laws.Accepted.{line-accepted}
 use Rattle.sheet.specs.laws.Pass.{accepted-start, accepted-step, said_of}
 use Rattle.why.specs.declared.StatementLine.{StatementLine}
 use Rattle.why.specs.own.Gather.{statement_limit}
-use Rattle.why.specs.own.Stating.{found_statement}
+use Rattle.why.specs.own.Stating.{Next, found_statement}
 use Rattle.why.specs.laws.Long.{line-long, split-total, total}
 use Rattle.why.specs.laws.Stating.{Turn, turn-passing}
 
@@ -72,7 +72,7 @@ from_more k s x [] e = let z : length s.statements ≡ length x.statements = ap 
 from_more k s x (l ∷ ls) e = omega (arith, from_more (k + 1) (line_said k s l) x ls (accepted-step k s x l ls e).1, said_more k s l)
 
 -- a statement that is met in its turn is one of them
-pub turn-few : (W : ℕ) {sheet : List ℕ} {t : Table} {x : Said} {P : List SheetStatement → Type 0} {q : StatementLine} {n : ℕ} (w : Turn sheet t x P q n) → q.found ≡ true → outcome W sheet ≡ accepted x → n < statement_limit
-turn-few W {sheet} {x = x} {q = q} w f o =
-    let p = turn-passing w f in
+pub turn-few : (W : ℕ) {sheet : List ℕ} {t : Table} {x : Said} {P : List SheetStatement → Type 0} {q : StatementLine} {at k n : ℕ} (w : Turn sheet t x P at k n) → Next sheet t at k (Some q) → outcome W sheet ≡ accepted x → n < statement_limit
+turn-few W {sheet} {x = x} {q = q} w z o =
+    let p = turn-passing w z in
     omega (arith, statements-few W sheet x o, w.number, from_more _ p.said x _ p.rest, ap length p.statements, length-append w.done (found_statement q ∷ []))

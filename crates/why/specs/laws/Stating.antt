@@ -1,6 +1,6 @@
 -- Laws of the second reading: which statements are done, and which come next. Assumes nothing.
-use Rattle.std.specs.Prelude.{◌≡◌, refl, Bool, true, false, cond, List, [], ◌∷◌, ◌++◌, ℕ, ◌+◌, ◌≤◌, ◌<◌, length}
-use Rattle.std.proofs.Common.{sym, ◌∙◌, subst, true≢false, zero-le, arith, length-append}
+use Rattle.std.specs.Prelude.{◌≡◌, refl, Bool, true, false, cond, Some, None, List, [], ◌∷◌, ◌++◌, ℕ, ◌+◌, ◌≤◌, ◌<◌, length}
+use Rattle.std.proofs.Common.{sym, ◌∙◌, subst, zero-le, arith, length-append}
 use Rattle.std.proofs.Math.Path.{ap}
 use Rattle.reader.specs.own.Scan.{line_at}
 use Rattle.text.specs.own.Split.{end_of, parts_from}
@@ -25,38 +25,38 @@ use Rattle.line.specs.laws.Some.{statement-some}
 use Rattle.sheet.specs.laws.Pass.{accepted-start, accepted-step, said_of}
 use Rattle.sheet.specs.laws.Settled.{none_last, sheet-settled}
 use Rattle.why.specs.declared.StatementLine.{StatementLine}
-use Rattle.why.specs.own.Stating.{LineStatement, Next, NextStatement, Opened, Passing, Paused, found_statement}
+use Rattle.why.specs.own.Stating.{LineStatement, Next, Passing, Paused, found_statement}
 
 -- ---- one line
 
 -- a line that is no statement leaves the statements
-saying-statements : (k past : ℕ) (n : Names) (s : Said) (fs : List Field) (r : StatementLine) (f : Form) → LineStatement n f fs k past r → r.found ≡ false → (saying k s f fs).statements ≡ s.statements
-saying-statements k past n s fs r form.Concept l e = refl
-saying-statements k past n s fs r form.Role l e = refl
-saying-statements k past n s fs r form.Item l e = refl
-saying-statements k past n s fs r (form.Statement w) l e = absurd (true≢false (sym (ap (λ (q : StatementLine). q.found) l) ∙ e))
-saying-statements k past n s fs r (form.Rule w) l e = refl
-saying-statements k past n s fs r form.Bare l e = refl
-saying-statements k past n s fs r form.Unknown l e = refl
+saying-statements : (k past : ℕ) (n : Names) (s : Said) (fs : List Field) (f : Form) → LineStatement n f fs k past None → (saying k s f fs).statements ≡ s.statements
+saying-statements k past n s fs form.Concept l = refl
+saying-statements k past n s fs form.Role l = refl
+saying-statements k past n s fs form.Item l = refl
+saying-statements k past n s fs (form.Statement w) l = cc
+saying-statements k past n s fs (form.Rule w) l = refl
+saying-statements k past n s fs form.Bare l = refl
+saying-statements k past n s fs form.Unknown l = refl
 
 -- a line that is one has a statement word
-saying-found : (k past : ℕ) (n : Names) (fs : List Field) (r : StatementLine) (f : Form) → LineStatement n f fs k past r → r.found ≡ true
-    → (w : StatementWord) × (f ≡ form.Statement w) × (r ≡ record { found = true; line = k; past = past; statement = statement_of n w fs })
-saying-found k past n fs r form.Concept l e = absurd (true≢false (sym e ∙ l))
-saying-found k past n fs r form.Role l e = absurd (true≢false (sym e ∙ l))
-saying-found k past n fs r form.Item l e = absurd (true≢false (sym e ∙ l))
-saying-found k past n fs r (form.Statement w) l e = (w, refl, l)
-saying-found k past n fs r (form.Rule w) l e = absurd (true≢false (sym e ∙ l))
-saying-found k past n fs r form.Bare l e = absurd (true≢false (sym e ∙ l))
-saying-found k past n fs r form.Unknown l e = absurd (true≢false (sym e ∙ l))
+saying-found : (k past : ℕ) (n : Names) (fs : List Field) (r : StatementLine) (f : Form) → LineStatement n f fs k past (Some r)
+    → (w : StatementWord) × (f ≡ form.Statement w) × (r ≡ record { line = k; past = past; statement = statement_of n w fs })
+saying-found k past n fs r form.Concept l = absurd (cc)
+saying-found k past n fs r form.Role l = absurd (cc)
+saying-found k past n fs r form.Item l = absurd (cc)
+saying-found k past n fs r (form.Statement w) l = (w, refl, cc)
+saying-found k past n fs r (form.Rule w) l = absurd (cc)
+saying-found k past n fs r form.Bare l = absurd (cc)
+saying-found k past n fs r form.Unknown l = absurd (cc)
 
-said-statements : (k past : ℕ) (n : Names) (s : Said) (l : List ℕ) (r : StatementLine) → LineStatement n (form_of (fields l)) (body_of (fields l)) k past r → r.found ≡ false → (line_said k s l).statements ≡ s.statements
+said-statements : (k past : ℕ) (n : Names) (s : Said) (l : List ℕ) → LineStatement n (form_of (fields l)) (body_of (fields l)) k past None → (line_said k s l).statements ≡ s.statements
 unfolding line_said
-said-statements k past n s l r q e = go (none l)
+said-statements k past n s l q = go (none l)
   where
     go : (t : Bool) → (cond t s (saying k s (form_of (fields l)) (body_of (fields l)))).statements ≡ s.statements
     go true = refl
-    go false = saying-statements k past n s (body_of (fields l)) r (form_of (fields l)) q e
+    go false = saying-statements k past n s (body_of (fields l)) (form_of (fields l)) q
 
 statement-said : (k : ℕ) (s : Said) (l : List ℕ) (w : StatementWord) → form_of (fields l) ≡ form.Statement w → line_said k s l ≡ saying k s (form.Statement w) (body_of (fields l))
 unfolding line_said
@@ -118,74 +118,65 @@ module _ {sheet : List ℕ} {t : Table} {x : Said} {done : List SheetStatement} 
       within_word =
           rw (← p.names) (subst (λ (n : Names). Within (counts_of n) (cell_of (statement_of n w (body_of (fields l))))) (sym settled) (statement-within p.said.names w (body_of (fields l)) right-word))
 
-    module _ (r : StatementLine) (q : LineStatement (names_of sheet t) (form_of (fields l)) (body_of (fields l)) k (e + 1) r) where
-      -- no statement
-      pub passing-on : r.found ≡ false → Passing sheet t x done (e + 1) (k + 1)
-      passing-on f =
-          record {
-            said = line_said k p.said l;
-            names = p.names;
-            statements = said-statements k (e + 1) (names_of sheet t) p.said l r q f ∙ p.statements;
-            rest = stepped.1;
-            short = p.short;
-            inside = omega (arith, ends, end-le 10 sheet at g);
-            near = omega (arith, p.near, ends, end_ge 10 sheet at);
-          }
+    -- no statement
+    pub passing-on : LineStatement (names_of sheet t) (form_of (fields l)) (body_of (fields l)) k (e + 1) None → Passing sheet t x done (e + 1) (k + 1)
+    passing-on q =
+        record {
+          said = line_said k p.said l;
+          names = p.names;
+          statements = said-statements k (e + 1) (names_of sheet t) p.said l q ∙ p.statements;
+          rest = stepped.1;
+          short = p.short;
+          inside = omega (arith, ends, end-le 10 sheet at g);
+          near = omega (arith, p.near, ends, end_ge 10 sheet at);
+        }
 
+    module _ (r : StatementLine) (q : LineStatement (names_of sheet t) (form_of (fields l)) (body_of (fields l)) k (e + 1) (Some r)) where
       -- the place past the line of a statement
-      pub passing-past : r.found ≡ true → r.past ≡ e + 1
-      passing-past f = ap (λ (u : StatementLine). u.past) (saying-found k (e + 1) (names_of sheet t) (body_of (fields l)) r (form_of (fields l)) q f).2
+      pub passing-past : r.past ≡ e + 1
+      passing-past = ap (λ (u : StatementLine). u.past) (saying-found k (e + 1) (names_of sheet t) (body_of (fields l)) r (form_of (fields l)) q).2
 
       -- one statement more
-      pub passing-statement : r.found ≡ true → Passing sheet t x (done ++ found_statement r ∷ []) r.past (r.line + 1) × Within (counts_of x.names) (cell_of r.statement)
-      passing-statement f =
-          let z = saying-found k (e + 1) (names_of sheet t) (body_of (fields l)) r (form_of (fields l)) q f in
+      pub passing-statement : Passing sheet t x (done ++ found_statement r ∷ []) r.past (r.line + 1) × Within (counts_of x.names) (cell_of r.statement)
+      passing-statement =
+          let z = saying-found k (e + 1) (names_of sheet t) (body_of (fields l)) r (form_of (fields l)) q in
           rw z.2 (passing-word z.0 z.1, within_word z.0 z.1)
 
 -- the first line after the header
-pub passing-start : (W : ℕ) (sheet : List ℕ) (t : Table) (x : Said) (e : ℕ) → e ≡ end_of 10 sheet 0 → outcome W sheet ≡ accepted x → x.names ≡ names_of sheet t → Passing sheet t x [] (e + 1) 2
+pub passing-start : (W : ℕ) (sheet : List ℕ) (t : Table) (x : Said) (e : ℕ) → e ≡ end_of 10 sheet 0 + 1 → outcome W sheet ≡ accepted x → x.names ≡ names_of sheet t → Passing sheet t x [] e 2
 passing-start W sheet t x e ends o n =
     let z = accepted-start W sheet x o in
     record { said = nothing z.0; names = n; statements = refl; rest = rw ends z.2; short = z.1; inside = omega (arith, ends, end-le 10 sheet 0 zero-le); near = omega arith }
 
 -- ---- going through the statements
 
--- the statement q comes next, after n others of which P holds
-pub record Turn (sheet : List ℕ) (t : Table) (x : Said) (P : List SheetStatement → Type 0) (q : StatementLine) (n : ℕ) : Type 0 where
+-- the second reading stands past n statements, of which P holds
+pub record Turn (sheet : List ℕ) (t : Table) (x : Said) (P : List SheetStatement → Type 0) (at k n : ℕ) : Type 0 where
   pub done : List SheetStatement
-  pub next : NextStatement q.found sheet t x done q
+  pub passing : Passing sheet t x done at k
   pub number : n ≡ length done
   pub holds : P done
 
-module _ {sheet : List ℕ} {t : Table} {x : Said} {P : List SheetStatement → Type 0} {q : StatementLine} where
-  pub turn-start : (W : ℕ) → Opened sheet t q → outcome W sheet ≡ accepted x → x.names ≡ names_of sheet t → P [] → Turn sheet t x P q 0
-  turn-start W w o n h = record { done = []; next = w.statement W x o n; number = refl; holds = h }
+module _ {sheet : List ℕ} {t : Table} {x : Said} {P : List SheetStatement → Type 0} where
+  pub turn-start : (W : ℕ) {e : ℕ} → e ≡ end_of 10 sheet 0 + 1 → outcome W sheet ≡ accepted x → x.names ≡ names_of sheet t → P [] → Turn sheet t x P e 2 0
+  turn-start W {e = e} ends o n h = record { done = []; passing = passing-start W sheet t x e ends o n; number = refl; holds = h }
 
-  module _ {n : ℕ} (w : Turn sheet t x P q n) where
+  module _ {at k n : ℕ} (w : Turn sheet t x P at k n) where
+    -- where the second reading stands
+    pub turn-paused : Paused sheet t at k
+    turn-paused = record { all = x; before = w.done; passing = w.passing }
+
     -- no statement comes next: P holds of all
-    pub turn_end : q.found ≡ false → P x.statements
-    turn_end f = subst P (sym (subst (λ (b : Bool). NextStatement b sheet t x w.done q) f w.next)) w.holds
+    pub turn_end : Next sheet t at k None → P x.statements
+    turn_end z = subst P (sym (z.statement x w.done w.passing)) w.holds
 
-    module _ (f : q.found ≡ true) where
-      turn-both : Passing sheet t x (w.done ++ found_statement q ∷ []) q.past (q.line + 1) × Within (counts_of x.names) (cell_of q.statement)
-      turn-both = subst (λ (b : Bool). NextStatement b sheet t x w.done q) f w.next
-
+    module _ {q : StatementLine} (z : Next sheet t at k (Some q)) where
       pub turn-passing : Passing sheet t x (w.done ++ found_statement q ∷ []) q.past (q.line + 1)
-      turn-passing = turn-both.0
+      turn-passing = (z.statement x w.done w.passing).0
 
       pub turn-within : Within (counts_of x.names) (cell_of q.statement)
-      turn-within = turn-both.1
-
-      -- where the second reading stands then
-      pub turn-paused : Paused sheet t q.past (q.line + 1)
-      turn-paused = record { all = x; before = w.done ++ found_statement q ∷ []; passing = turn-passing }
+      turn-within = (z.statement x w.done w.passing).1
 
       -- the next turn
-      pub turn-next : {Q : List SheetStatement → Type 0} {r : StatementLine} → Next sheet t q.past (q.line + 1) r → Q (w.done ++ found_statement q ∷ []) → Turn sheet t x Q r (n + 1)
-      turn-next z h =
-          record {
-            done = w.done ++ found_statement q ∷ [];
-            next = z.statement x (w.done ++ found_statement q ∷ []) turn-passing;
-            number = omega (arith, w.number, length-append w.done (found_statement q ∷ []));
-            holds = h;
-          }
+      pub turn-next : {Q : List SheetStatement → Type 0} → Q (w.done ++ found_statement q ∷ []) → Turn sheet t x Q q.past (q.line + 1) (n + 1)
+      turn-next h = record { done = w.done ++ found_statement q ∷ []; passing = turn-passing; number = omega (arith, w.number, length-append w.done (found_statement q ∷ [])); holds = h }

@@ -4,7 +4,7 @@ use Rattle.store.specs.Cell.{Cell}
 use Rattle.sheet.specs.own.Pass.{Accepts}
 use Rattle.sheet.specs.Said.{Said, outcome}
 use Rattle.sheet.specs.Said.Outcome.{accepted}
-use Rattle.field.specs.own.Table.{Table, Tidy, names_of}
+use Rattle.field.specs.own.Table.{Table, names_of}
 use Rattle.reason.specs.own.Picked.{picked}
 use Rattle.why.specs.Reason.{FollowsFrom, Reason}
 
@@ -14,7 +14,6 @@ Of sheet t P = (W : ℕ) (x : Said) → outcome W sheet ≡ accepted x → x.nam
 
 -- the sheet is accepted with the names of the table t, and the cell c follows from its statements
 pub record Asked (sheet : List ℕ) (t : Table) (c : Cell) : Type 0 where
-  pub tidy : Tidy sheet t
   pub sheet_said : Accepts sheet t
   pub follows : Of sheet t (λ x. FollowsFrom t.counts c x.statements)
 

@@ -1,12 +1,12 @@
 -- The second reading of an accepted sheet: its statements, one after the other.
-use Rattle.std.specs.Prelude.{◌≡◌, Bool, true, false, List, [], ◌∷◌, ◌++◌, ℕ, ◌+◌, ◌≤◌, ◌<◌, length}
+use Rattle.std.specs.Prelude.{◌≡◌, Option, Some, None, List, [], ◌∷◌, ◌++◌, ℕ, ◌+◌, ◌≤◌, ◌<◌, length}
 use Rattle.text.specs.own.Split.{parts_from}
 use Rattle.store.specs.Cell.{Within, cell_of}
 use Rattle.field.specs.declared.Form.{Form}
 use Rattle.field.specs.declared.Form.TheVariants as form
 use Rattle.line.specs.Fault.{sheet_limit}
 use Rattle.field.specs.Names.{Names, counts_of}
-use Rattle.sheet.specs.Said.{Said, SheetStatement, outcome, outcome_from}
+use Rattle.sheet.specs.Said.{Said, SheetStatement, outcome_from}
 use Rattle.stated.specs.Stated.{statement_of}
 use Rattle.sheet.specs.Said.Outcome.{accepted}
 use Rattle.field.specs.own.Table.{Table, names_of}
@@ -14,14 +14,14 @@ use Rattle.field.specs.Words.{Field}
 use Rattle.why.specs.declared.StatementLine.{StatementLine}
 
 -- the statement of a line, by its form; the line has the number k, and `past` is the place past it
-abbrev pub LineStatement : Names → Form → List Field → ℕ → ℕ → StatementLine → Type 0
-LineStatement n form.Concept fs k past r = r.found ≡ false
-LineStatement n form.Role fs k past r = r.found ≡ false
-LineStatement n form.Item fs k past r = r.found ≡ false
-LineStatement n (form.Statement w) fs k past r = r ≡ record { found = true; line = k; past = past; statement = statement_of n w fs }
-LineStatement n (form.Rule w) fs k past r = r.found ≡ false
-LineStatement n form.Bare fs k past r = r.found ≡ false
-LineStatement n form.Unknown fs k past r = r.found ≡ false
+abbrev pub LineStatement : Names → Form → List Field → ℕ → ℕ → Option StatementLine → Type 0
+LineStatement n form.Concept fs k past r = r ≡ None
+LineStatement n form.Role fs k past r = r ≡ None
+LineStatement n form.Item fs k past r = r ≡ None
+LineStatement n (form.Statement w) fs k past r = r ≡ Some (record { line = k; past = past; statement = statement_of n w fs })
+LineStatement n (form.Rule w) fs k past r = r ≡ None
+LineStatement n form.Bare fs k past r = r ≡ None
+LineStatement n form.Unknown fs k past r = r ≡ None
 
 -- the table t has the names of the accepted sheet x; its lines from a place on, the first of which has the number k, come after its statements `done`
 pub record Passing (sheet : List ℕ) (t : Table) (x : Said) (done : List SheetStatement) (at k : ℕ) : Type 0 where
@@ -44,17 +44,11 @@ abbrev pub found_statement : StatementLine → SheetStatement
 found_statement r = record { line = r.line; statement = r.statement }
 
 -- the statement after those `done`, or there is none
-abbrev pub NextStatement : Bool → List ℕ → Table → Said → List SheetStatement → StatementLine → Type 0
-NextStatement true sheet t x done r = Passing sheet t x (done ++ found_statement r ∷ []) r.past (r.line + 1) × Within (counts_of x.names) (cell_of r.statement)
-NextStatement false sheet t x done r = x.statements ≡ done
+abbrev pub NextStatement : List ℕ → Table → Said → List SheetStatement → Option StatementLine → Type 0
+NextStatement sheet t x done (Some r) = Passing sheet t x (done ++ found_statement r ∷ []) r.past (r.line + 1) × Within (counts_of x.names) (cell_of r.statement)
+NextStatement sheet t x done None = x.statements ≡ done
 
--- the first statement from a place on
-pub record Next (sheet : List ℕ) (t : Table) (at k : ℕ) (r : StatementLine) : Type 0 where
-  pub statement : (x : Said) (done : List SheetStatement) → Passing sheet t x done at k → NextStatement r.found sheet t x done r
-  pub later : at < r.past
-  pub inside : r.past ≤ length sheet + 2
-
--- the first statement of an accepted sheet
-pub record Opened (sheet : List ℕ) (t : Table) (r : StatementLine) : Type 0 where
-  pub statement : (W : ℕ) (x : Said) → outcome W sheet ≡ accepted x → x.names ≡ names_of sheet t → NextStatement r.found sheet t x [] r
-  pub inside : r.past ≤ length sheet + 2
+-- the first statement from a place on; its line ends past that place
+pub record Next (sheet : List ℕ) (t : Table) (at k : ℕ) (r : Option StatementLine) : Type 0 where
+  pub statement : (x : Said) (done : List SheetStatement) → Passing sheet t x done at k → NextStatement sheet t x done r
+  pub later : (q : StatementLine) → r ≡ Some q → at < q.past

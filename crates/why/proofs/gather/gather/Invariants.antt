@@ -1,8 +1,5 @@
--- `why::gather::gather` meets its contract: the first n numbers are those of the n statements passed, and q comes next. Assumes nothing.
-use mathlib.Core.Path.{◌≡◌}
-use mathlib.Core.List.{List}
-use Prim.Native.Nat.{◌+◌, ◌-◌, ◌≤◌}
-use lib.ListN.{length, take}
+-- `why::gather::gather` meets its contract: the first n numbers are those of the n statements passed. Assumes nothing.
+use Rattle.std.proofs.Common.{◌≡◌, List, ◌+◌, ◌-◌, ◌≤◌, length, take}
 use Rattle.sheet.specs.Said.{SheetStatement}
 use Rattle.field.specs.own.Table.{table_of}
 use Rattle.why.specs.own.Asked.{Of}
@@ -11,7 +8,7 @@ use Rattle.why.specs.laws.Stating.{Turn}
 use Rattle.why.proofs.gather.gather.Given as goal
 
 abbrev pub invariant-loop-q : goal.invariant-loop-q
-invariant-loop-q l = Of l.sheet (table_of l.names l.counts) (λ x. Turn l.sheet (table_of l.names l.counts) x (λ (done : List SheetStatement). Numbers l.counts (take l.n l.codes) done) l.q l.n) × (l.q.past ≤ length l.sheet + 2) × (l.n ≤ statement_limit) × (length l.codes ≡ statement_limit)
+invariant-loop-q l = Of l.known.sheet.now (table_of l.known.numbers.now l.known.counts) (λ x. Turn l.known.sheet.now (table_of l.known.numbers.now l.known.counts) x (λ (done : List SheetStatement). Numbers l.known.counts (take l.n l.codes) done) l.at l.line l.n) × (l.n ≤ statement_limit) × (length l.codes ≡ statement_limit)
 
 abbrev pub decreases-loop-q : goal.decreases-loop-q
-decreases-loop-q l = length l.sheet + 2 - l.q.past
+decreases-loop-q l = length l.known.sheet.now + 2 - l.at

@@ -1,12 +1,6 @@
 -- `why::gather::reasoned` meets its contract. Assumes nothing.
-use mathlib.Core.Path.{sym}
-use native.Mathlib.Omega.{arith}
-use lib.Seq.{length-take-le}
 use Rattle.why.specs.laws.Gather.{gathered-reason, gathered-sought}
 use Rattle.why.proofs.gather.reasoned.Goals as goal
-
-pub slice_bounds-explain-end : goal.slice_bounds-explain-end
-slice_bounds-explain-end c = sym (length-take-le _ _ (omega (arith, c.gather-n.ensures.few, c.gather-n.ensures.long)))
 
 pub explain-requires : goal.explain-requires
 explain-requires c = gathered-sought c.gather-n.ensures c.requires.0 c.requires.1 c.requires.2 c.requires.3
