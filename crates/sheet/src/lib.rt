@@ -48,10 +48,9 @@ pub struct Ended {
     pub start: Start,
 }
 
-// The next rule of a sheet: whether there is one, the number of its line, the place past that line, and the rule.
+// A rule of a sheet: the number of its line, the place past that line, and the rule.
 #[derive(Clone, Copy)]
 pub struct RuleLine {
-    pub found: bool,
     pub line: usize,
     pub past: usize,
     pub rule: Rule,
