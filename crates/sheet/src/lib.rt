@@ -8,6 +8,9 @@ pub mod reads;
 pub mod sheets;
 mod taking;
 
+ghost use Rattle.std.specs.Prelude.{◌≤◌};
+ghost use Rattle.store.specs.Layout.{large, width_of};
+ghost use Rattle.field.specs.own.Table.{number_count};
 ghost use Rattle.sheet.specs.Promise.{Reads};
 
 use field::Table;
@@ -45,10 +48,9 @@ pub struct Ended {
     pub start: Start,
 }
 
-// The next rule of a sheet: whether there is one, the number of its line, the place past that line, and the rule.
+// A rule of a sheet: the number of its line, the place past that line, and the rule.
 #[derive(Clone, Copy)]
 pub struct RuleLine {
-    pub found: bool,
     pub line: usize,
     pub past: usize,
     pub rule: Rule,
@@ -77,13 +79,13 @@ pub struct Whole {
     pub start: Start,
 }
 
-// Reads a sheet into a lent store, which may be the larger one.
-fn read_large(sheet: &[u8], words: &mut [u64]) -> Result<Accepted, Refused>
+// Reads a sheet into a lent store, with N numbers for its names.
+fn read_with<const N: usize>(sheet: &[u8], words: &mut [u64]) -> Result<Accepted, Refused>
+    requires { (number_count (width_of words.old) ≤ N) × (N ≤ number_count large) }
     ensures { Reads sheet.now words.old words.new result }
 {
-    let mut names = [0u32; Table::LARGE_NUMBERS];
-    let r = crate::reads::whole(sheet, words, &mut names);
-    r.answer
+    let mut names = [0u32; N];
+    crate::reads::whole(sheet, words, &mut names).answer
 }
 
 // Reads a sheet into the lent store: what follows from its statements, and how many findings its rules have.
@@ -91,9 +93,8 @@ pub fn read(sheet: &[u8], words: &mut [u64]) -> Result<Accepted, Refused>
     ensures { Reads sheet.now words.old words.new result }
 {
     if words.len() == Store::LARGE_WORDS {
-        return read_large(sheet, words);
+        read_with::<{ Table::LARGE_NUMBERS }>(sheet, words)
+    } else {
+        read_with::<{ Table::NUMBERS }>(sheet, words)
     }
-    let mut names = [0u32; Table::NUMBERS];
-    let r = crate::reads::whole(sheet, words, &mut names);
-    r.answer
 }

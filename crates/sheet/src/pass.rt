@@ -1,50 +1,31 @@
 // The second reading of an accepted sheet: its rules, one after the other. What is public here is a part with a `requires`, not an entry point.
-ghost use Rattle.std.specs.Prelude.{◌≡◌, false};
+ghost use Rattle.std.specs.Prelude.{◌≡◌};
 ghost use Rattle.field.specs.Words.{body_of, form_of};
 ghost use Rattle.field.specs.own.Known.{fields_in, names_in};
-ghost use Rattle.sheet.specs.own.Pass.{Accepts, LineRule, Next, Opened, Paused, RuleIfReady, table_in};
+ghost use Rattle.sheet.specs.own.Pass.{Accepts, Next, Opened, Paused, RuleIfReady, line_rule, table_in};
 
 use crate::RuleLine;
 use field::Form;
 use field::known::{Fields, Known};
 use line::Sheet;
-use rule::Head;
-use store::Item;
-
-// No rule.
-fn no_rule(line: usize, past: usize) -> RuleLine
-    ensures { (result.found ≡ false) × (result.line ≡ line) × (result.past ≡ past) }
-{
-    let rule = saying::rules::bare(Head::Same(Item(0), Item(0)));
-    RuleLine {
-        found: false,
-        line,
-        past,
-        rule,
-    }
-}
 
 // The rule of a line, if it is the line of one; with the line's number and the place past it.
-fn rule_in(known: &Known, fields: &Fields, number: usize, past: usize) -> RuleLine
+fn rule_in(known: &Known, fields: &Fields, number: usize, past: usize) -> Option<RuleLine>
     requires { RuleIfReady fields.now.line.now }
-    ensures { LineRule (names_in known.now) (form_of (fields_in fields.now)) (body_of (fields_in fields.now)) number past result }
+    ensures { result ≡ line_rule (names_in known.now) (form_of (fields_in fields.now)) (body_of (fields_in fields.now)) number past }
 {
     match field::words::form(fields.line, fields.ends) {
-        Form::Rule(w) => {
-            let rule = saying::rules::rule_of(known, fields, 2, w);
-            RuleLine {
-                found: true,
-                line: number,
-                past,
-                rule,
-            }
-        }
-        _ => no_rule(number, past),
+        Form::Rule(w) => Some(RuleLine {
+            line: number,
+            past,
+            rule: saying::rules::rule_of(known, fields, 2, w),
+        }),
+        _ => None,
     }
 }
 
 // The first rule from a place of the sheet on, where a line with the number given begins.
-pub fn next(known: &Known, from: usize, first: usize) -> RuleLine
+pub fn next(known: &Known, from: usize, first: usize) -> Option<RuleLine>
     requires { Paused known.now.sheet.now (table_in known.now) from first }
     ensures { Next known.now.sheet.now (table_in known.now) from first result }
 {
@@ -60,18 +41,17 @@ pub fn next(known: &Known, from: usize, first: usize) -> RuleLine
             line: &sheet[at..end],
             ends: &ends[..n],
         };
-        let q = rule_in(known, &fields, line, end + 1);
-        if q.found {
-            return q;
+        if let Some(q) = rule_in(known, &fields, line, end + 1) {
+            return Some(q);
         }
         line += 1;
         at = end + 1;
     }
-    no_rule(line, sheet.len() + 2)
+    None
 }
 
 // The first rule of an accepted sheet.
-pub fn first(known: &Known) -> RuleLine
+pub fn first(known: &Known) -> Option<RuleLine>
     requires { Accepts known.now.sheet.now (table_in known.now) }
     ensures { Opened known.now.sheet.now (table_in known.now) result }
 {

@@ -26,14 +26,14 @@ fn count_all(known: &Known, words: &[u64], at: Layout, start: Start) -> u64
     requires { Judges at.width known.now.sheet.now (table_in known.now) words.now × Since at.width known.now.sheet.now start × Laid at words.now }
     ensures { Totalled at.width known.now.sheet.now (table_in known.now) words.now result }
 {
-    let mut q = crate::pass::next(known, start.at, start.line);
+    let mut next = crate::pass::next(known, start.at, start.line);
     let mut n = 0;
     let mut total = 0;
-    while q.found {
+    while let Some(q) = next {
         let p = judge::seek::start(words, at, known.counts, n, q.rule, 0);
         total += counted(p.answer);
         n += 1;
-        q = crate::pass::next(known, q.past, q.line + 1);
+        next = crate::pass::next(known, q.past, q.line + 1);
     }
     total
 }

@@ -16,7 +16,8 @@ impl Name {
 fn name_byte(b: u8) -> bool
     ensures { result ≡ name_byte b }
 {
-    matches!(b, b'A'..=b'Z' | b'a'..=b'z' | b'-'..=b'9' | b'_')
+    // Not one matches!(..) of all the ranges: it takes over twice as long (tried).
+    b.is_ascii_alphanumeric() || matches!(b, b'-' | b'.' | b'/' | b'_')
 }
 
 // Whether the bytes are a name.

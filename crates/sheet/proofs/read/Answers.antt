@@ -1,6 +1,10 @@
 -- `sheet::read` meets its contract. Assumes nothing.
-use Rattle.sheet.specs.laws.Width.{numbers-small}
+use Rattle.std.proofs.Common.{arith}
+use Rattle.sheet.specs.laws.Width.{numbers-large, numbers-small}
 use Rattle.sheet.proofs.read.Goals as goal
 
-pub whole-r-requires : goal.whole-r-requires
-whole-r-requires c = numbers-small _ c.if-words-eq-LARGE_WORDS.false
+pub read_with-requires : goal.read_with-requires
+read_with-requires c = (numbers-large _, omega arith)
+
+pub read_with-requires-else-words-eq-LARGE_WORDS : goal.read_with-requires-else-words-eq-LARGE_WORDS
+read_with-requires-else-words-eq-LARGE_WORDS c = (numbers-small _ c.if-words-eq-LARGE_WORDS.false, omega arith)

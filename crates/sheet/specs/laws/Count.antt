@@ -1,5 +1,5 @@
 -- Laws of going through the rules of a sheet and counting their findings. Assumes nothing.
-use Rattle.std.specs.Prelude.{◌≡◌, refl, Bool, true, false, List, [], ◌∷◌, ◌++◌, ℕ, suc, ◌+◌, ◌*◌, ◌≤◌, length}
+use Rattle.std.specs.Prelude.{◌≡◌, refl, List, [], ◌∷◌, ◌++◌, ℕ, suc, ◌+◌, ◌*◌, ◌≤◌, length, Option, Some, None}
 use Rattle.std.proofs.Common.{sym, ap, ◌∙◌, subst, append_assoc, append-nil, arith, eq-eqb, ne_eqb, length-append}
 use Rattle.store.specs.declared.Counts.{Counts}
 use Rattle.store.specs.declared.Layout.{Layout}
@@ -31,13 +31,13 @@ use Rattle.field.specs.laws.Table.{counts_of-names_of}
 -- ---- going through the rules
 
 -- the rule q comes next, after n others of which P holds
-pub record Turn (sheet : List ℕ) (t : Table) (x : Said) (P : List SheetRule → Type 0) (q : RuleLine) (n : ℕ) : Type 0 where
+pub record Turn (sheet : List ℕ) (t : Table) (x : Said) (P : List SheetRule → Type 0) (q : Option RuleLine) (n : ℕ) : Type 0 where
   pub done : List SheetRule
-  pub next : NextRule q.found sheet t x done q
+  pub next : NextRule sheet t x done q
   pub number : n ≡ length done
   pub holds : P done
 
-module _ {sheet : List ℕ} {t : Table} {x : Said} {P : List SheetRule → Type 0} {q : RuleLine} where
+module _ {sheet : List ℕ} {t : Table} {x : Said} {P : List SheetRule → Type 0} {q : Option RuleLine} where
   pub turn-start : (W : ℕ) → Opened sheet t q → outcome W sheet ≡ accepted x → x.names ≡ names_of sheet t → P [] → Turn sheet t x P q 0
   turn-start W w o n h = record { done = []; next = w.rule W x o n; number = refl; holds = h }
 
@@ -47,28 +47,29 @@ module _ {sheet : List ℕ} {t : Table} {x : Said} {P : List SheetRule → Type 
 
   module _ {n : ℕ} (w : Turn sheet t x P q n) where
     -- no rule comes next: P holds of all
-    pub turn_end : q.found ≡ false → P x.rules
-    turn_end f = subst P (sym (subst (λ (b : Bool). NextRule b sheet t x w.done q) f w.next)) w.holds
+    pub turn_end : q ≡ None → P x.rules
+    turn_end f = subst P (sym (subst (NextRule sheet t x w.done) f w.next)) w.holds
 
-    module _ (f : q.found ≡ true) where
-      pub turn-passing : Passing sheet t x (w.done ++ found_rule q ∷ []) q.past (q.line + 1)
-      turn-passing = subst (λ (b : Bool). NextRule b sheet t x w.done q) f w.next
+    -- the rule r comes next
+    module _ (r : RuleLine) (f : q ≡ Some r) where
+      pub turn-passing : Passing sheet t x (w.done ++ found_rule r ∷ []) r.past (r.line + 1)
+      turn-passing = subst (NextRule sheet t x w.done) f w.next
 
       -- where the second reading stands then
-      pub turn-paused : Paused sheet t q.past (q.line + 1)
-      turn-paused = record { all = x; before = w.done ++ found_rule q ∷ []; passing = turn-passing }
+      pub turn-paused : Paused sheet t r.past (r.line + 1)
+      turn-paused = record { all = x; before = w.done ++ found_rule r ∷ []; passing = turn-passing }
 
       -- the rule is that of the sheet after those done
-      pub turn-rules : (rest : List SheetRule) × (x.rules ≡ w.done ++ found_rule q ∷ rest)
-      turn-rules = let z = passing-rest turn-passing in (z.0, z.1 ∙ append_assoc w.done (found_rule q ∷ []) z.0)
+      pub turn-rules : (rest : List SheetRule) × (x.rules ≡ w.done ++ found_rule r ∷ rest)
+      turn-rules = let z = passing-rest turn-passing in (z.0, z.1 ∙ append_assoc w.done (found_rule r ∷ []) z.0)
 
       -- the next turn
-      pub turn-next : {Q : List SheetRule → Type 0} {r : RuleLine} → Next sheet t q.past (q.line + 1) r → Q (w.done ++ found_rule q ∷ []) → Turn sheet t x Q r (n + 1)
+      pub turn-next : {Q : List SheetRule → Type 0} {s : Option RuleLine} → Next sheet t r.past (r.line + 1) s → Q (w.done ++ found_rule r ∷ []) → Turn sheet t x Q s (n + 1)
       turn-next z h =
           record {
-            done = w.done ++ found_rule q ∷ [];
-            next = z.rule x (w.done ++ found_rule q ∷ []) turn-passing;
-            number = omega (arith, w.number, length-append w.done (found_rule q ∷ []));
+            done = w.done ++ found_rule r ∷ [];
+            next = z.rule x (w.done ++ found_rule r ∷ []) turn-passing;
+            number = omega (arith, w.number, length-append w.done (found_rule r ∷ []));
             holds = h;
           }
 

@@ -1,6 +1,6 @@
 -- Laws of the second reading: which rules are done, and which come next. Assumes nothing.
-use Rattle.std.specs.Prelude.{◌≡◌, refl, Bool, true, false, cond, List, [], ◌∷◌, ◌++◌, ℕ, ◌+◌, ◌≤◌, ◌<◌, eqb, leb, length, drop}
-use Rattle.std.proofs.Common.{sym, ◌∙◌, true≢false, append_assoc, append-nil, zero-le, arith, eqb-true, leb-true}
+use Rattle.std.specs.Prelude.{◌≡◌, refl, Bool, true, false, cond, List, [], ◌∷◌, ◌++◌, ℕ, ◌+◌, ◌≤◌, ◌<◌, eqb, leb, length, drop, Option, Some, None}
+use Rattle.std.proofs.Common.{sym, ◌∙◌, append_assoc, append-nil, zero-le, arith, eqb-true, leb-true}
 use Rattle.std.proofs.Math.Path.{ap}
 use Rattle.reader.specs.own.Scan.{line_at}
 use Rattle.text.specs.own.Split.{end_of, parts_from}
@@ -14,7 +14,7 @@ use Rattle.field.specs.Due.{none}
 use Rattle.line.specs.Fault.{header_fault, line_fault, line_limit, room_by, sheet_limit}
 use Rattle.field.specs.Names.{Names}
 use Rattle.sheet.specs.declared.Start.{Start}
-use Rattle.sheet.specs.own.Pass.{LineRule, Passing, RuleIfReady, found_rule}
+use Rattle.sheet.specs.own.Pass.{Passing, RuleIfReady, found_rule, line_rule}
 use Rattle.sheet.specs.own.Stands.{Since}
 use Rattle.saying.specs.Read.{rule_of}
 use Rattle.sheet.specs.Said.{Outcome, Said, SheetRule, line_said, marks_of, nothing, outcome, outcome_from, outcome_of, saying}
@@ -74,33 +74,32 @@ accepted-same W U sheet {x} {y} o q =
 -- ---- one line
 
 -- a line that is no rule leaves the rules
-saying-rules : (k past : ℕ) (n : Names) (s : Said) (fs : List Field) (r : RuleLine) (f : Form) → LineRule n f fs k past r → r.found ≡ false → (saying k s f fs).rules ≡ s.rules
-saying-rules k past n s fs r form.Concept l e = refl
-saying-rules k past n s fs r form.Role l e = refl
-saying-rules k past n s fs r form.Item l e = refl
-saying-rules k past n s fs r (form.Statement w) l e = refl
-saying-rules k past n s fs r (form.Rule w) l e = absurd (true≢false (sym (ap (λ (q : RuleLine). q.found) l) ∙ e))
-saying-rules k past n s fs r form.Bare l e = refl
-saying-rules k past n s fs r form.Unknown l e = refl
+saying-rules : (k past : ℕ) (n : Names) (s : Said) (fs : List Field) (f : Form) → line_rule n f fs k past ≡ None → (saying k s f fs).rules ≡ s.rules
+saying-rules k past n s fs form.Concept e = refl
+saying-rules k past n s fs form.Role e = refl
+saying-rules k past n s fs form.Item e = refl
+saying-rules k past n s fs (form.Statement w) e = refl
+saying-rules k past n s fs (form.Rule w) e = absurd (cc)
+saying-rules k past n s fs form.Bare e = refl
+saying-rules k past n s fs form.Unknown e = refl
 
 -- a line that is one has a rule word
-saying-found : (k past : ℕ) (n : Names) (fs : List Field) (r : RuleLine) (f : Form) → LineRule n f fs k past r → r.found ≡ true
-    → (w : RuleWord) × (f ≡ form.Rule w) × (r ≡ record { found = true; line = k; past = past; rule = rule_of n w fs })
-saying-found k past n fs r form.Concept l e = absurd (true≢false (sym e ∙ l))
-saying-found k past n fs r form.Role l e = absurd (true≢false (sym e ∙ l))
-saying-found k past n fs r form.Item l e = absurd (true≢false (sym e ∙ l))
-saying-found k past n fs r (form.Statement w) l e = absurd (true≢false (sym e ∙ l))
-saying-found k past n fs r (form.Rule w) l e = (w, refl, l)
-saying-found k past n fs r form.Bare l e = absurd (true≢false (sym e ∙ l))
-saying-found k past n fs r form.Unknown l e = absurd (true≢false (sym e ∙ l))
+saying-found : (k past : ℕ) (n : Names) (fs : List Field) (r : RuleLine) (f : Form) → line_rule n f fs k past ≡ Some r → (w : RuleWord) × (f ≡ form.Rule w) × (r ≡ record { line = k; past = past; rule = rule_of n w fs })
+saying-found k past n fs r form.Concept e = absurd (cc)
+saying-found k past n fs r form.Role e = absurd (cc)
+saying-found k past n fs r form.Item e = absurd (cc)
+saying-found k past n fs r (form.Statement w) e = absurd (cc)
+saying-found k past n fs r (form.Rule w) e = (w, refl, cc)
+saying-found k past n fs r form.Bare e = absurd (cc)
+saying-found k past n fs r form.Unknown e = absurd (cc)
 
-said-rules : (k past : ℕ) (n : Names) (s : Said) (l : List ℕ) (r : RuleLine) → LineRule n (form_of (fields l)) (body_of (fields l)) k past r → r.found ≡ false → (line_said k s l).rules ≡ s.rules
+said-rules : (k past : ℕ) (n : Names) (s : Said) (l : List ℕ) → line_rule n (form_of (fields l)) (body_of (fields l)) k past ≡ None → (line_said k s l).rules ≡ s.rules
 unfolding line_said
-said-rules k past n s l r q e = go (none l)
+said-rules k past n s l e = go (none l)
   where
     go : (t : Bool) → (cond t s (saying k s (form_of (fields l)) (body_of (fields l)))).rules ≡ s.rules
     go true = refl
-    go false = saying-rules k past n s (body_of (fields l)) r (form_of (fields l)) q e
+    go false = saying-rules k past n s (body_of (fields l)) (form_of (fields l)) e
 
 pub rule-said : (k : ℕ) (s : Said) (l : List ℕ) (w : RuleWord) → form_of (fields l) ≡ form.Rule w → line_said k s l ≡ saying k s (form.Rule w) (body_of (fields l))
 unfolding line_said
@@ -159,14 +158,14 @@ module _ {sheet : List ℕ} {t : Table} {x : Said} {done : List SheetRule} {at k
           near = omega (arith, p.near, ends, end_ge 10 sheet at);
         }
 
-    module _ (r : RuleLine) (q : LineRule (names_of sheet t) (form_of (fields l)) (body_of (fields l)) k (e + 1) r) where
+    module _ {r : Option RuleLine} (q : r ≡ line_rule (names_of sheet t) (form_of (fields l)) (body_of (fields l)) k (e + 1)) where
       -- no rule
-      pub passing-on : r.found ≡ false → Passing sheet t x done (e + 1) (k + 1)
+      pub passing-on : r ≡ None → Passing sheet t x done (e + 1) (k + 1)
       passing-on f =
           record {
             said = line_said k p.said l;
             names = p.names;
-            rules = said-rules k (e + 1) (names_of sheet t) p.said l r q f ∙ p.rules;
+            rules = said-rules k (e + 1) (names_of sheet t) p.said l (sym q ∙ f) ∙ p.rules;
             rest = stepped.1;
             short = p.short;
             inside = omega (arith, ends, end-le 10 sheet at g);
@@ -174,13 +173,13 @@ module _ {sheet : List ℕ} {t : Table} {x : Said} {done : List SheetRule} {at k
           }
 
       -- the place past the line of a rule
-      pub passing-past : r.found ≡ true → r.past ≡ e + 1
-      passing-past f = ap (λ (u : RuleLine). u.past) (saying-found k (e + 1) (names_of sheet t) (body_of (fields l)) r (form_of (fields l)) q f).2
+      pub passing-past : (u : RuleLine) → r ≡ Some u → u.past ≡ e + 1
+      passing-past u f = ap (λ (v : RuleLine). v.past) (saying-found k (e + 1) (names_of sheet t) (body_of (fields l)) u (form_of (fields l)) (sym q ∙ f)).2
 
       -- one rule more
-      pub passing-rule : r.found ≡ true → Passing sheet t x (done ++ found_rule r ∷ []) r.past (r.line + 1)
-      passing-rule f =
-          let z = saying-found k (e + 1) (names_of sheet t) (body_of (fields l)) r (form_of (fields l)) q f in
+      pub passing-rule : (u : RuleLine) → r ≡ Some u → Passing sheet t x (done ++ found_rule u ∷ []) u.past (u.line + 1)
+      passing-rule u f =
+          let z = saying-found k (e + 1) (names_of sheet t) (body_of (fields l)) u (form_of (fields l)) (sym q ∙ f) in
           rw z.2 (passing-word z.0 z.1)
 
 -- the first line after the header

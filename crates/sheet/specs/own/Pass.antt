@@ -1,5 +1,5 @@
 -- The reader's own records of its second reading: the rules of an accepted sheet, one after the other.
-use Rattle.std.specs.Prelude.{◌≡◌, Bool, true, false, List, [], ◌∷◌, ◌++◌, ℕ, ◌+◌, ◌≤◌, ◌<◌, length}
+use Rattle.std.specs.Prelude.{◌≡◌, List, [], ◌∷◌, ◌++◌, ℕ, ◌+◌, ◌-◌, ◌≤◌, ◌<◌, length, Option, Some, None}
 use Rattle.text.specs.Split.{fields}
 use Rattle.text.specs.own.Split.{parts_from}
 use Rattle.store.specs.Layout.{ClosedStore, Holds, size, width_of}
@@ -32,14 +32,14 @@ abbrev pub RuleIfReady : List ℕ → Type 0
 RuleIfReady l = (w : RuleWord) → form_of (fields l) ≡ form.Rule w → RuleReady w (body_of (fields l))
 
 -- the rule of a line, by its form; the line has the number k, and `past` is the place past it
-abbrev pub LineRule : Names → Form → List Field → ℕ → ℕ → RuleLine → Type 0
-LineRule n form.Concept fs k past r = r.found ≡ false
-LineRule n form.Role fs k past r = r.found ≡ false
-LineRule n form.Item fs k past r = r.found ≡ false
-LineRule n (form.Statement w) fs k past r = r.found ≡ false
-LineRule n (form.Rule w) fs k past r = r ≡ record { found = true; line = k; past = past; rule = rule_of n w fs }
-LineRule n form.Bare fs k past r = r.found ≡ false
-LineRule n form.Unknown fs k past r = r.found ≡ false
+abbrev pub line_rule : Names → Form → List Field → ℕ → ℕ → Option RuleLine
+line_rule n form.Concept fs k past = None
+line_rule n form.Role fs k past = None
+line_rule n form.Item fs k past = None
+line_rule n (form.Statement w) fs k past = None
+line_rule n (form.Rule w) fs k past = Some (record { line = k; past = past; rule = rule_of n w fs })
+line_rule n form.Bare fs k past = None
+line_rule n form.Unknown fs k past = None
 
 -- the table t has the names of the accepted sheet x; its lines from a place on, the first of which has the number k, come after its rules `done`
 pub record Passing (sheet : List ℕ) (t : Table) (x : Said) (done : List SheetRule) (at k : ℕ) : Type 0 where
@@ -62,15 +62,20 @@ abbrev pub found_rule : RuleLine → SheetRule
 found_rule r = record { line = r.line; rule = r.rule }
 
 -- the rule after those `done`, or there is none
-abbrev pub NextRule : Bool → List ℕ → Table → Said → List SheetRule → RuleLine → Type 0
-NextRule true sheet t x done r = Passing sheet t x (done ++ found_rule r ∷ []) r.past (r.line + 1)
-NextRule false sheet t x done r = x.rules ≡ done
+abbrev pub NextRule : List ℕ → Table → Said → List SheetRule → Option RuleLine → Type 0
+NextRule sheet t x done (Some r) = Passing sheet t x (done ++ found_rule r ∷ []) r.past (r.line + 1)
+NextRule sheet t x done None = x.rules ≡ done
 
 -- the first rule from a place on
-pub record Next (sheet : List ℕ) (t : Table) (at k : ℕ) (r : RuleLine) : Type 0 where
-  pub rule : (x : Said) (done : List SheetRule) → Passing sheet t x done at k → NextRule r.found sheet t x done r
-  pub later : at < r.past
-  pub inside : r.past ≤ length sheet + 2
+pub record Next (sheet : List ℕ) (t : Table) (at k : ℕ) (r : Option RuleLine) : Type 0 where
+  pub rule : (x : Said) (done : List SheetRule) → Passing sheet t x done at k → NextRule sheet t x done r
+  pub later : (q : RuleLine) → r ≡ Some q → at < q.past
+  pub inside : (q : RuleLine) → r ≡ Some q → q.past ≤ length sheet + 2
+
+-- how much of a sheet with so many bytes is left after the rule that comes next
+abbrev pub left_after : ℕ → Option RuleLine → ℕ
+left_after n (Some q) = n + 3 - q.past
+left_after n None = 0
 
 -- the table t has the names of the sheet, which is accepted, with a store of some row width
 pub record Accepts (sheet : List ℕ) (t : Table) : Type 0 where
@@ -80,9 +85,9 @@ pub record Accepts (sheet : List ℕ) (t : Table) : Type 0 where
   pub names : said.names ≡ names_of sheet t
 
 -- the first rule of an accepted sheet
-pub record Opened (sheet : List ℕ) (t : Table) (r : RuleLine) : Type 0 where
-  pub rule : (W : ℕ) (x : Said) → outcome W sheet ≡ accepted x → x.names ≡ names_of sheet t → NextRule r.found sheet t x [] r
-  pub inside : r.past ≤ length sheet + 2
+pub record Opened (sheet : List ℕ) (t : Table) (r : Option RuleLine) : Type 0 where
+  pub rule : (W : ℕ) (x : Said) → outcome W sheet ≡ accepted x → x.names ≡ names_of sheet t → NextRule sheet t x [] r
+  pub inside : (q : RuleLine) → r ≡ Some q → q.past ≤ length sheet + 2
 
 -- the findings that an answer counts
 abbrev pub counted_in : Total → ℕ
