@@ -1,2 +1,0 @@
--- What is proved of nodes as numbers.
-pub mod Packed
