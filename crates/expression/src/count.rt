@@ -53,6 +53,7 @@ fn several(view: &View, k: usize, u: RoleUse, p: &Row, q: &Row) -> Row
     if size(&lead) < k {
         return r;
     }
+    // No for: past an item that is not in the row the loop goes on at the next that is, with no look at those between.
     let mut x = 0;
     while x < view.counts.items {
         if row::pick::has(q, x) {
@@ -77,6 +78,7 @@ fn turned(u: RoleUse) -> RoleUse
 }
 
 // The items that the role, or its inverse, links to items of the row p of at least k different articles. None: all items. One: by the step of the turned role from p. Several: of an inverse by tallies, where these count so many; otherwise by one item of each article.
+// Kept out of row_at, which calls itself: the rows that it needs would stand in each of those calls.
 #[inline(never)]
 pub fn many(view: &View, k: usize, u: RoleUse, p: &Row) -> Row
     ensures { Marks view.now.counts.items result (λ x. Articles (held view.now) view.now.counts k (Found (held view.now) u (RowHas p.now) x)) }

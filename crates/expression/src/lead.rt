@@ -14,6 +14,7 @@ pub fn keep_leaders(view: &View, r: &mut Row)
     requires { (length r.old ≡ room) × ((x : ℕ) → RowHas r.old x → DeclaredItem view.now.counts x) }
     ensures { (length r.new ≡ room) × Marks view.now.counts.items r.new (Leads (held view.now) (RowHas r.old)) }
 {
+    // No for: the loop goes from an item of the row to the next, with no look at those between.
     let mut b = row::pick::next(r, 0, view.counts.items);
     while b < view.counts.items {
         view.drop_same(Item(b), r);

@@ -50,6 +50,7 @@ fn tally_word(view: &View, k: usize, role: Role, p: &Row, h: usize) -> u64
     ensures { AllTell h k (λ x y. LinkedWay (held view.now) Bool.true role.0 x y × RowHas p.now y) result }
 {
     let mut t = blank();
+    // No for: the loop goes from an item of the row to the next, with no look at those between.
     let mut b = row::pick::next(p, 0, view.counts.items);
     while b < view.counts.items {
         let links = view.link_word(role, Item(b), h);

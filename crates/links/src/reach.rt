@@ -19,6 +19,7 @@ fn forward(view: &View, role: Role, p: &Row) -> Row
     ensures { Marks view.now.counts.items result (Reached (LinkedWay (held view.now) Bool.false role.0) (RowHas p.now)) }
 {
     let mut r = row::pick::empty();
+    // No for: past an item that is not in the row the loop goes on at the next that is, with no look at those between.
     let mut z = 0;
     while z < view.counts.items {
         if row::pick::has(p, z) {
@@ -41,7 +42,9 @@ fn backward(view: &View, role: Role, p: &Row) -> Row
         return r;
     }
     for y in 0..view.counts.items {
-        row::pick::mark(&mut r, y, view.links_meet(role, Item(y), p));
+        if view.links_meet(role, Item(y), p) {
+            row::pick::mark(&mut r, y, true);
+        }
     }
     r
 }
