@@ -1,20 +1,21 @@
 // Why an item is a finding of a rule `sub` with concept names on both sides.
 #![tactic(auto)]
 
-ghost use Rattle.std.specs.Prelude.{◌≡◌, false, ◌≤◌, length};
+ghost use Rattle.std.specs.Prelude.{◌≡◌, ◌≤◌, length};
 ghost use Rattle.store.specs.Layout.{width_of};
 ghost use Rattle.store.specs.own.Laid.{Laid};
 ghost use Rattle.sheet.specs.own.Pass.{Accepts, Judges};
-ghost use Rattle.field.specs.own.Table.{Tidy, number_count, table_of};
+ghost use Rattle.field.specs.own.Table.{number_count, table_of};
 ghost use Rattle.reason.specs.own.Promise.{Lent};
 ghost use Rattle.why.specs.own.Asked.{Of};
 ghost use Rattle.finding.specs.Finding.{ExplainsFinding};
 ghost use Rattle.finding.specs.own.Sides.{Breaking, NodeIs, RuleFound, SidesAre};
 
 use field::Table;
+use field::known::Known;
 use rule::{Head, Node, Rule};
-use sheet::{Refused, RuleLine};
-use store::{Concept, Counts, Item, Layout, Statement, Store};
+use sheet::Refused;
+use store::{Concept, Item, Layout, Statement, Store};
 use why::Paths;
 
 // Why an item is a finding: how many lines there are in all, and the concept in which the item is not.
@@ -24,149 +25,79 @@ pub struct Explained {
     pub absent: Concept,
 }
 
-// The concept of a node, if it is a name.
-#[derive(Clone, Copy)]
-pub struct NodeName {
-    pub named: bool,
-    pub concept: usize,
-}
-
-// The concepts on the sides of a rule, if it is `sub` with concept names.
+// The concepts on the sides of a rule `sub` with concept names.
 #[derive(Clone, Copy)]
 pub struct Sides {
-    pub named: bool,
     pub left: usize,
     pub right: usize,
 }
 
-// No name.
-fn no_name() -> NodeName
-    ensures { result.named ≡ false }
-{
-    NodeName {
-        named: false,
-        concept: 0,
-    }
-}
-
 // The concept of a node, if it is a name.
-fn name_of(n: Node) -> NodeName
+fn name_of(n: Node) -> Option<Concept>
     ensures { NodeIs n result }
 {
     match n {
-        Node::Name(c) => NodeName {
-            named: true,
-            concept: c.0,
-        },
-        Node::Top => no_name(),
-        Node::Not(_) => no_name(),
-        Node::And(_, _) => no_name(),
-        Node::AtLeast(_, _, _) => no_name(),
-        Node::SelfOf(_) => no_name(),
-        Node::One(_) => no_name(),
-    }
-}
-
-// No sides.
-fn no_sides() -> Sides
-    ensures { result.named ≡ false }
-{
-    Sides {
-        named: false,
-        left: 0,
-        right: 0,
+        Node::Name(c) => Some(c),
+        _ => None,
     }
 }
 
 // The sides of a rule with the roots a and b, if both are concept names.
-fn sides_at(u: Rule, a: usize, b: usize) -> Sides
+fn sides_at(u: Rule, a: usize, b: usize) -> Option<Sides>
     requires { u.head ≡ Head.Sub a b }
-    ensures { SidesAre result.named u result }
+    ensures { SidesAre u result }
 {
-    let nodes = u.nodes;
-    let c = name_of(rule::nodes::node_at(nodes, a));
-    let d = name_of(rule::nodes::node_at(nodes, b));
-    if !c.named {
-        return no_sides();
-    }
-    if !d.named {
-        return no_sides();
-    }
-    Sides {
-        named: true,
-        left: c.concept,
-        right: d.concept,
-    }
+    let left = name_of(rule::nodes::node_at(u.nodes, a))?;
+    let right = name_of(rule::nodes::node_at(u.nodes, b))?;
+    Some(Sides {
+        left: left.0,
+        right: right.0,
+    })
 }
 
 // The sides of a rule, if it is `sub` with concept names on both.
-fn sides_of(u: Rule) -> Sides
-    ensures { SidesAre result.named u result }
+fn sides_of(u: Rule) -> Option<Sides>
+    ensures { SidesAre u result }
 {
-    let head = u.head;
-    match head {
+    match u.head {
         Head::Sub(a, b) => sides_at(u, a, b),
-        Head::RoleSub(_, _) => no_sides(),
-        Head::Chain(_, _, _, _, _, _) => no_sides(),
-        Head::Ref(_) => no_sides(),
-        Head::Irr(_) => no_sides(),
-        Head::Dis(_, _) => no_sides(),
-        Head::In(_, _) => no_sides(),
-        Head::Rel(_, _, _) => no_sides(),
-        Head::NoRel(_, _, _) => no_sides(),
-        Head::Same(_, _) => no_sides(),
-        Head::Differ(_, _) => no_sides(),
+        _ => None,
     }
 }
 
 // The rule of an accepted sheet with the number k, from 0.
-fn rule_at(sheet: &[u8], names: &[u32], counts: Counts, k: usize) -> RuleLine
-    requires { Tidy sheet.now (table_of names.now counts) × Accepts sheet.now (table_of names.now counts) }
-    ensures { Of sheet.now (table_of names.now counts) (λ x. RuleFound result.found x k result) }
+fn rule_at(known: &Known, k: usize) -> Option<Rule>
+    requires { Accepts known.now.sheet.now (table_of known.now.numbers.now known.now.counts) }
+    ensures { Of known.now.sheet.now (table_of known.now.numbers.now known.now.counts) (λ x. RuleFound x k result) }
 {
-    let mut q = sheet::pass::first(sheet, names, counts);
+    let mut q = sheet::pass::first(known.sheet, known.numbers, known.counts);
     let mut n = 0;
     while q.found {
         if n == k {
-            return q;
+            return Some(q.rule);
         }
         n += 1;
-        q = sheet::pass::next(sheet, names, counts, q.past, q.line + 1);
+        q = sheet::pass::next(known.sheet, known.numbers, known.counts, q.past, q.line + 1);
     }
-    q
+    None
 }
 
 // The sides of the rule with the number k, if it is `sub` with concept names and the item a breaks it.
-pub fn broken(
-    sheet: &[u8],
-    names: &[u32],
-    counts: Counts,
-    words: &[u64],
-    at: Layout,
-    k: usize,
-    a: usize,
-) -> Sides
-    requires { Judges at.width sheet.now (table_of names.now counts) words.now × Laid at words.now }
-    ensures { Breaking at.width sheet.now (table_of names.now counts) words.now k a result }
+pub fn broken(known: &Known, words: &[u64], at: Layout, k: usize, a: usize) -> Option<Sides>
+    requires { Judges at.width known.now.sheet.now (table_of known.now.numbers.now known.now.counts) words.now × Laid at words.now }
+    ensures { Breaking at.width known.now.sheet.now (table_of known.now.numbers.now known.now.counts) words.now k a result }
 {
-    let q = rule_at(sheet, names, counts, k);
-    if !q.found {
-        return no_sides();
-    }
-    let u = q.rule;
-    let s = sides_of(u);
-    if !s.named {
-        return no_sides();
-    }
+    let u = rule_at(known, k)?;
+    let s = sides_of(u)?;
     let left = Statement::In(Item(a), Concept(s.left));
-    if !store::look::told(words, at, counts, left) {
-        return no_sides();
+    if !store::look::told(words, at, known.counts, left) {
+        return None;
     }
     let right = Statement::In(Item(a), Concept(s.right));
-    if store::look::told(words, at, counts, right) {
-        return no_sides();
+    if store::look::told(words, at, known.counts, right) {
+        return None;
     }
-    s
+    Some(s)
 }
 
 // Reads a sheet into the lent store, with numbers lent for its names and words for the search, and lists a reason for the item's being in the left concept of the rule with the number k, or says why not.
@@ -190,18 +121,24 @@ fn answer(
     if e.why != 0 {
         return Err(Refused { line: e.line, why: e.why });
     }
-    let kept = e.kept;
-    let counts = kept.counts;
-    let s = broken(sheet, names, counts, words, at, k, a.0);
-    if !s.named {
+    let known = Known {
+        sheet,
+        numbers: names,
+        counts: e.kept.counts,
+    };
+    let Some(s) = broken(&known, words, at, k, a.0) else {
         return Err(Refused { line: 0, why: 25 });
-    }
+    };
     let left = Statement::In(a, Concept(s.left));
-    let total = why::list(sheet, names, counts, left, table, at.width, room);
-    Ok(Explained { lines: total, absent: Concept(s.right) })
+    let lines = why::list(&known, left, table, at.width, room);
+    Ok(Explained {
+        lines,
+        absent: Concept(s.right),
+    })
 }
 
 // The same with a lent store that may be the larger one. A list of no place is answered as one of one place: a function that calls itself keeps its words off its caller's stack.
+// Not one generic function with `explain`: that one would call itself for the smaller store too, and say in a clause what its two sizes must fit, in more lines than the two have.
 fn explain_large(
     sheet: &[u8],
     words: &mut [u64],

@@ -1,6 +1,5 @@
 -- `finding::answer` meets its contract. Assumes nothing.
-use mathlib.Core.Path.{refl}
-use borrow.Author.Tests.{not-false, not-true}
+use Rattle.std.proofs.Common.{refl}
 use Rattle.store.specs.laws.Laid.{laid_of}
 use Rattle.store.specs.laws.Width.{laid_by, width-wide}
 use Rattle.sheet.specs.Promise.Reads.{wrong_size}
@@ -20,18 +19,18 @@ fill-e-requires c = let e = c.layout_of-at.ensures in (rw e c.requires.0, laid_b
 pub returns-then-e-ne0 : goal.returns-then-e-ne0
 returns-then-e-ne0 c = finding-refused (rw c.layout_of-at.ensures at c.fill-e.ensures) (c.long.ensures.holds c.if-not-long.false) c.args.k c.args.a.0 c.args.room.now c.if-e-ne0.true
 
-pub broken-s-requires : goal.broken-s-requires
-broken-s-requires c = let j = opens-judges c.fill-e.ensures c.if-e-ne0.false in
+pub broken-requires : goal.broken-requires
+broken-requires c = let j = opens-judges c.fill-e.ensures c.if-e-ne0.false in
     (j, laid_of c.layout_of-at.ensures (rw c.layout_of-at.ensures at j.store.long) (width-wide _))
 
-pub returns-then-not-s : goal.returns-then-not-s
-returns-then-not-s c = finding-not (rw c.layout_of-at.ensures at c.fill-e.ensures) (c.long.ensures.holds c.if-not-long.false) c.args.k c.args.a.0 c.args.room.now c.if-e-ne0.false c.broken-s.result (rw c.layout_of-at.ensures at c.broken-s.ensures) (not-true _ c.if-not-s.true)
+pub returns-in_default : goal.returns-in_default
+returns-in_default c = finding-not (rw c.layout_of-at.ensures at c.fill-e.ensures) (c.long.ensures.holds c.if-not-long.false) c.args.k c.args.a.0 c.args.room.now c.if-e-ne0.false (rw c.layout_of-at.ensures at c.in_default.ensures)
 
 pub list-total-requires : goal.list-total-requires
 list-total-requires c = (
-  finding-asked (rw c.layout_of-at.ensures at c.fill-e.ensures) (c.long.ensures.holds c.if-not-long.false) c.args.k c.args.a.0 c.args.room.now c.if-e-ne0.false c.broken-s.result (rw c.layout_of-at.ensures at c.broken-s.ensures) (not-false _ c.if-not-s.false),
+  finding-asked (rw c.layout_of-at.ensures at c.fill-e.ensures) (c.long.ensures.holds c.if-not-long.false) c.args.k c.args.a.0 c.args.room.now c.if-e-ne0.false c.in-Some.s (rw c.layout_of-at.ensures at c.in-Some.ensures),
   searched-by c.layout_of-at.ensures (width_some _) (opens-judges c.fill-e.ensures c.if-e-ne0.false).store.fits c.requires.1,
 )
 
 pub returns : goal.returns
-returns c = finding-found (rw c.layout_of-at.ensures at c.fill-e.ensures) (c.long.ensures.holds c.if-not-long.false) c.args.k c.args.a.0 c.args.room.now c.if-e-ne0.false c.broken-s.result (rw c.layout_of-at.ensures at c.broken-s.ensures) (not-false _ c.if-not-s.false) c.list-total.ensures
+returns c = finding-found (rw c.layout_of-at.ensures at c.fill-e.ensures) (c.long.ensures.holds c.if-not-long.false) c.args.k c.args.a.0 c.args.room.now c.if-e-ne0.false c.in-Some.s (rw c.layout_of-at.ensures at c.in-Some.ensures) c.list-total.ensures

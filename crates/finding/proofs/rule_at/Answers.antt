@@ -1,15 +1,9 @@
 -- `finding::rule_at` meets its contract. Assumes nothing.
-use mathlib.Core.Path.{sym, ◌∙◌}
-use mathlib.Core.List.{[], ◌∷◌}
-use native.Mathlib.Omega.{arith}
-use lib.ListN.{length-append}
+use Rattle.std.proofs.Common.{[], ◌∷◌, arith, length-append, sym, ◌∙◌}
 use Rattle.sheet.specs.laws.Count.{turn_end, turn-next, turn-paused, turn-rules, turn-start}
 use Rattle.sheet.specs.laws.Pass.{accepted-start}
 use Rattle.sheet.specs.own.Pass.{found_rule}
 use Rattle.finding.proofs.rule_at.Goals as goal
-
-pub first-q-requires : goal.first-q-requires
-first-q-requires c = (c.requires.0, c.requires.1)
 
 pub loop-q-init : goal.loop-q-init
 loop-q-init c = ((λ W x o m. turn-start W c.first-q.ensures o m (omega arith)), omega arith, c.first-q.ensures.inside, omega arith)
@@ -18,16 +12,16 @@ pub returns-then-n-k : goal.returns-then-n-k
 returns-then-n-k c = λ W x o m.
     let w = c.loop-q.invariant.0 W x o m in
     let z = turn-rules w c.loop-q-test.true in
-    rw c.loop-q-test.true (record { before = w.done; line = c.loop-q.q.line; after = z.0; is = z.1; place = sym c.if-n-k.true ∙ w.number })
+    record { before = w.done; line = c.loop-q.q.line; after = z.0; is = z.1; place = sym c.if-n-k.true ∙ w.number }
 
 pub overflow_add-n : goal.overflow_add-n
-overflow_add-n c = omega (arith, c.loop-q.invariant.1, c.loop-q.invariant.2, (accepted-start _ _ _ c.requires.1.ends).1)
+overflow_add-n c = omega (arith, c.loop-q.invariant.1, c.loop-q.invariant.2, (accepted-start _ _ _ c.requires.ends).1)
 
 pub overflow_add-q : goal.overflow_add-q
-overflow_add-q c = omega (arith, (turn-paused (c.loop-q.invariant.0 _ _ c.requires.1.ends c.requires.1.names) c.loop-q-test.true).passing.near, c.loop-q.invariant.2, (accepted-start _ _ _ c.requires.1.ends).1)
+overflow_add-q c = omega (arith, (turn-paused (c.loop-q.invariant.0 _ _ c.requires.ends c.requires.names) c.loop-q-test.true).passing.near, c.loop-q.invariant.2, (accepted-start _ _ _ c.requires.ends).1)
 
 pub next-q-requires : goal.next-q-requires
-next-q-requires c = (c.requires.0, turn-paused (c.loop-q.invariant.0 _ _ c.requires.1.ends c.requires.1.names) c.loop-q-test.true)
+next-q-requires c = (c.args.known.now.tidy, turn-paused (c.loop-q.invariant.0 _ _ c.requires.ends c.requires.names) c.loop-q-test.true)
 
 pub loop-q-smaller : goal.loop-q-smaller
 loop-q-smaller c = omega (arith, c.next-q.ensures.later, c.next-q.ensures.inside)
@@ -43,4 +37,4 @@ loop-q-preserved c = (
 )
 
 pub returns : goal.returns
-returns c = λ W x o m. rw c.loop-q-test.false (turn_end (c.loop-q.invariant.0 W x o m) c.loop-q-test.false)
+returns c = λ W x o m. turn_end (c.loop-q.invariant.0 W x o m) c.loop-q-test.false

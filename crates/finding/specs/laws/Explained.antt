@@ -1,5 +1,5 @@
 -- From the parts of the search to the promise for a finding. Assumes nothing.
-use Rattle.std.specs.Prelude.{◌≡◌, refl, Bool, true, false, List, ℕ, length}
+use Rattle.std.specs.Prelude.{◌≡◌, refl, Option, Some, None, List, ℕ, length}
 use Rattle.std.proofs.Common.{sym, subst}
 use Rattle.store.specs.declared.Counts.{Counts}
 use Rattle.store.specs.Cell.Cell.{In}
@@ -29,21 +29,21 @@ module _ {sheet s numbers u : List ℕ} {e : Ended} (w : Opens (width_of s) shee
   finding-refused z = refused (whole-refused refl long w z).reads refl
 
   -- an accepted one
-  module _ (z : e.why ≡ 0) (r : Sides) (b : Breaking (width_of s) sheet (kept_table numbers e) u k a r) where
+  module _ (z : e.why ≡ 0) where
     counts-are : counts_of w.said.names ≡ e.kept.counts
     counts-are = opens-counts w
 
     -- what was found of the rule
-    here : BrokenIf (width_of s) r.named (counts_of w.said.names) w.said u k a r
-    here = subst (λ (n : Counts). BrokenIf (width_of s) r.named n w.said u k a r) (sym counts-are) (b (width_of s) w.said (opens-outcome w z) w.names)
+    here : (r : Option Sides) → Breaking (width_of s) sheet (kept_table numbers e) u k a r → BrokenIf (width_of s) (counts_of w.said.names) w.said u k a r
+    here r b = subst (λ (n : Counts). BrokenIf (width_of s) n w.said u k a r) (sym counts-are) (b (width_of s) w.said (opens-outcome w z) w.names)
 
     -- the rule is not there, of another kind or not broken
-    pub finding-not : r.named ≡ false → ExplainsFinding sheet s u k a before before (Err (refusal_as 0 25))
-    finding-not f = not-broken long (opens-outcome w z) (opens-held w z) (subst (λ (t : Bool). BrokenIf (width_of s) t (counts_of w.said.names) w.said u k a r) f here) refl
+    pub finding-not : Breaking (width_of s) sheet (kept_table numbers e) u k a None → ExplainsFinding sheet s u k a before before (Err (refusal_as 0 25))
+    finding-not b = not-broken long (opens-outcome w z) (opens-held w z) (here None b) refl
 
-    module _ (t : r.named ≡ true) where
+    module _ (r : Sides) (b : Breaking (width_of s) sheet (kept_table numbers e) u k a (Some r)) where
       broken-here : BrokenSub (width_of s) (counts_of w.said.names) w.said u k a r.left r.right
-      broken-here = subst (λ (y : Bool). BrokenIf (width_of s) y (counts_of w.said.names) w.said u k a r) t here
+      broken-here = here (Some r) b
 
       -- the item is in the left concept: a reason can be asked for
       pub finding-asked : Asked sheet (kept_table numbers e) (In a r.left)

@@ -1,5 +1,5 @@
 -- Laws of explaining a finding: which rule it is, its sides, and that the item breaks it. Assumes nothing.
-use Rattle.std.specs.Prelude.{◌≡◌, Bool, true, false, List, [], ◌∷◌, ◌++◌, ℕ, ◌≤◌, length}
+use Rattle.std.specs.Prelude.{◌≡◌, Bool, true, false, Some, None, List, [], ◌∷◌, ◌++◌, ℕ, ◌≤◌, length}
 use Rattle.std.proofs.Common.{sym, ap, ◌∙◌, true≢false, arith, length-append}
 use Rattle.std.proofs.Math.Path.{subst}
 use Rattle.store.specs.declared.Concept.{Concept}
@@ -20,23 +20,22 @@ use Rattle.rule.specs.Form.{node_at}
 use Rattle.rule.specs.Meaning.{HoldsOf}
 use Rattle.breach.specs.own.Plan.{is_sub}
 use Rattle.sheet.specs.Said.{RuleAt, Said, SheetRule}
-use Rattle.finding.specs.declared.NodeName.{NodeName}
 use Rattle.finding.specs.Finding.{BrokenSub, SubOfNames, concept}
 use Rattle.finding.specs.own.Sides.{NodeIs}
 
 -- ---- the sides of a rule
 
-node-name : (n : Node) {r : NodeName} → NodeIs n r → r.named ≡ true → n ≡ node.Name (concept r.concept)
-node-name (node.Name c) e t = ap (λ (r : NodeName). node.Name (concept r.concept)) (sym e)
-node-name node.Top e t = absurd (true≢false (sym t ∙ e))
-node-name (node.Not a) e t = absurd (true≢false (sym t ∙ e))
-node-name (node.And a b) e t = absurd (true≢false (sym t ∙ e))
-node-name (node.AtLeast k u a) e t = absurd (true≢false (sym t ∙ e))
-node-name (node.SelfOf u) e t = absurd (true≢false (sym t ∙ e))
-node-name (node.One a) e t = absurd (true≢false (sym t ∙ e))
+node-name : (n : Node) {c : Concept} → NodeIs n (Some c) → n ≡ node.Name c
+node-name (node.Name d) e = cc
+node-name node.Top e = absurd (cc)
+node-name (node.Not a) e = absurd (cc)
+node-name (node.And a b) e = absurd (cc)
+node-name (node.AtLeast k u a) e = absurd (cc)
+node-name (node.SelfOf u) e = absurd (cc)
+node-name (node.One a) e = absurd (cc)
 
-node-not : (n : Node) (r : NodeName) (c : Concept) → NodeIs n r → r.named ≡ false → n ≡ node.Name c → ⊥
-node-not n r c e f q = let z : NodeIs (node.Name c) r = subst (λ (m : Node). NodeIs m r) q e in true≢false (sym (ap (λ (s : NodeName). s.named) z) ∙ f)
+node-not : (n : Node) (c : Concept) → NodeIs n None → n ≡ node.Name c → ⊥
+node-not n c e q = let z : NodeIs (node.Name c) None = subst (λ (m : Node). NodeIs m None) q e in cc
 
 name-expr : (ns : List Slot) (i : ℕ) (c : Concept) → node_at ns i ≡ node.Name c → expr_of ns i ≡ name c
 unfolding expr_at
@@ -65,18 +64,18 @@ unfolding expr_at
 expr-name ns i c e = build-name (expr_at 31 ns) (node_at ns i) c e
 
 module _ {u : Rule} {a b : ℕ} (h : u.head ≡ head.Sub a b) where
-  pub sides-names : (c d : NodeName) → NodeIs (node_at u.nodes a) c → NodeIs (node_at u.nodes b) d → c.named ≡ true → d.named ≡ true → SubOfNames u c.concept d.concept
-  sides-names c d x y p q = record { left = a; right = b; head = h; first = name-expr u.nodes a _ (node-name _ x p); second = name-expr u.nodes b _ (node-name _ y q) }
+  pub sides-names : (c d : Concept) → NodeIs (node_at u.nodes a) (Some c) → NodeIs (node_at u.nodes b) (Some d) → SubOfNames u c.0 d.0
+  sides-names c d x y = record { left = a; right = b; head = h; first = name-expr u.nodes a c (node-name _ x); second = name-expr u.nodes b d (node-name _ y) }
 
-  pub sides-left-not : (r : NodeName) → NodeIs (node_at u.nodes a) r → r.named ≡ false → (c d : ℕ) → ¬ (SubOfNames u c d)
-  sides-left-not r x f c d s =
+  pub sides-left-not : NodeIs (node_at u.nodes a) None → (c d : ℕ) → ¬ (SubOfNames u c d)
+  sides-left-not x c d s =
       let e : s.left ≡ a = let z = sym s.head ∙ h in cc in
-      node-not (node_at u.nodes a) r (concept c) x f (subst (λ (i : ℕ). node_at u.nodes i ≡ node.Name (concept c)) e (expr-name u.nodes s.left (concept c) s.first))
+      node-not (node_at u.nodes a) (concept c) x (subst (λ (i : ℕ). node_at u.nodes i ≡ node.Name (concept c)) e (expr-name u.nodes s.left (concept c) s.first))
 
-  pub sides-right-not : (r : NodeName) → NodeIs (node_at u.nodes b) r → r.named ≡ false → (c d : ℕ) → ¬ (SubOfNames u c d)
-  sides-right-not r x f c d s =
+  pub sides-right-not : NodeIs (node_at u.nodes b) None → (c d : ℕ) → ¬ (SubOfNames u c d)
+  sides-right-not x c d s =
       let e : s.right ≡ b = let z = sym s.head ∙ h in cc in
-      node-not (node_at u.nodes b) r (concept d) x f (subst (λ (i : ℕ). node_at u.nodes i ≡ node.Name (concept d)) e (expr-name u.nodes s.right (concept d) s.second))
+      node-not (node_at u.nodes b) (concept d) x (subst (λ (i : ℕ). node_at u.nodes i ≡ node.Name (concept d)) e (expr-name u.nodes s.right (concept d) s.second))
 
 -- a rule with another word than `sub` has no sides
 pub sides-other : (u : Rule) → is_sub u.head ≡ false → (c d : ℕ) → ¬ (SubOfNames u c d)
