@@ -15,28 +15,28 @@ use rule::Rule;
 use store::Store;
 
 // Whether the section has ended.
-fn ended(m: Marks, s: Section) -> bool
+fn ended(m: Marks, s: Option<Section>) -> bool
     ensures { result ≡ ended_by m s }
 {
     match s {
-        Section::Declarations => m.stated || 0 < m.rules,
-        Section::Statements => 0 < m.rules,
+        Some(Section::Declarations) => m.stated || 0 < m.rules,
+        Some(Section::Statements) => 0 < m.rules,
         _ => false,
     }
 }
 
 // Whether the word of the section is unknown.
-fn unknown(s: Section) -> bool
+fn unknown(s: Option<Section>) -> bool
     ensures { result ≡ unknown_by s }
 {
-    matches!(s, Section::None)
+    s.is_none()
 }
 
 // Whether there is no room for one more rule.
-fn full(m: Marks, s: Section) -> bool
+fn full(m: Marks, s: Option<Section>) -> bool
     ensures { result ≡ full_by m s }
 {
-    matches!(s, Section::Rules) && Sheet::RULES <= m.rules
+    matches!(s, Some(Section::Rules)) && Sheet::RULES <= m.rules
 }
 
 // What is wrong with the room for rules, or with so many nodes.
