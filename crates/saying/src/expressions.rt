@@ -1,4 +1,4 @@
-ghost use Rattle.std.specs.Prelude.{◌≡◌, [], ◌∷◌, ◌+◌, ◌≤◌, ◌<◌, length, drop};
+ghost use Rattle.std.specs.Prelude.{◌≡◌, Some, [], ◌∷◌, ◌+◌, ◌≤◌, ◌<◌, length, drop};
 ghost use Rattle.text.specs.Split.{fields};
 ghost use Rattle.rule.specs.Form.{node_limit};
 ghost use Rattle.field.specs.Names.{nodes_of};
@@ -41,22 +41,22 @@ fn put_three(nodes: &mut [usize], len: usize, a: Node, b: Node, c: Node) -> usiz
 }
 
 // How many fields a word takes with it, itself counted.
-fn head_fields(o: Operator) -> usize
+fn head_fields(o: Option<Operator>) -> usize
     ensures { result ≡ head_fields o }
 {
     match o {
-        Operator::And => 1,
-        Operator::Or => 1,
-        Operator::Not => 1,
-        Operator::Some => 2,
-        Operator::All => 2,
-        Operator::AtLeast => 3,
-        Operator::AtMost => 3,
-        Operator::SelfOf => 2,
-        Operator::One => 2,
-        Operator::Top => 1,
-        Operator::Bot => 1,
-        Operator::None => 1,
+        Some(Operator::And) => 1,
+        Some(Operator::Or) => 1,
+        Some(Operator::Not) => 1,
+        Some(Operator::Some) => 2,
+        Some(Operator::All) => 2,
+        Some(Operator::AtLeast) => 3,
+        Some(Operator::AtMost) => 3,
+        Some(Operator::SelfOf) => 2,
+        Some(Operator::One) => 2,
+        Some(Operator::Top) => 1,
+        Some(Operator::Bot) => 1,
+        None => 1,
     }
 }
 
@@ -81,7 +81,7 @@ fn put_some(
     k: usize,
 ) -> usize
     requires { Tidy sheet.now (table_of names.now counts) × Looked line.now ends.now × (length nodes.old ≡ pack_limit) × (i < node_limit) × (k < length ends.now) }
-    ensures { PutAll nodes.old i (head_nodes (names_of sheet.now (table_of names.now counts)) Operator.Some i (drop k (fields line.now))) nodes.new result }
+    ensures { PutAll nodes.old i (head_nodes (names_of sheet.now (table_of names.now counts)) (Some Operator.Some) i (drop k (fields line.now))) nodes.new result }
 {
     let u = stated::numbers::role_use(sheet, names, counts, line, ends, k + 1);
     put(nodes, i, Node::AtLeast(1, u, i + 1))
@@ -99,7 +99,7 @@ fn put_every(
     k: usize,
 ) -> usize
     requires { Tidy sheet.now (table_of names.now counts) × Looked line.now ends.now × (length nodes.old ≡ pack_limit) × (i + 3 ≤ node_limit) × (k < length ends.now) }
-    ensures { PutAll nodes.old i (head_nodes (names_of sheet.now (table_of names.now counts)) Operator.All i (drop k (fields line.now))) nodes.new result }
+    ensures { PutAll nodes.old i (head_nodes (names_of sheet.now (table_of names.now counts)) (Some Operator.All) i (drop k (fields line.now))) nodes.new result }
 {
     let u = stated::numbers::role_use(sheet, names, counts, line, ends, k + 1);
     let some = Node::AtLeast(1, u, i + 2);
@@ -118,7 +118,7 @@ fn put_at_least(
     k: usize,
 ) -> usize
     requires { Tidy sheet.now (table_of names.now counts) × Looked line.now ends.now × (length nodes.old ≡ pack_limit) × (i < node_limit) × (k < length ends.now) }
-    ensures { PutAll nodes.old i (head_nodes (names_of sheet.now (table_of names.now counts)) Operator.AtLeast i (drop k (fields line.now))) nodes.new result }
+    ensures { PutAll nodes.old i (head_nodes (names_of sheet.now (table_of names.now counts)) (Some Operator.AtLeast) i (drop k (fields line.now))) nodes.new result }
 {
     let u = stated::numbers::role_use(sheet, names, counts, line, ends, k + 2);
     let m = field::names::count(stated::numbers::nth(line, ends, k + 1));
@@ -137,7 +137,7 @@ fn put_at_most(
     k: usize,
 ) -> usize
     requires { Tidy sheet.now (table_of names.now counts) × Looked line.now ends.now × (length nodes.old ≡ pack_limit) × (i + 2 ≤ node_limit) × (k < length ends.now) }
-    ensures { PutAll nodes.old i (head_nodes (names_of sheet.now (table_of names.now counts)) Operator.AtMost i (drop k (fields line.now))) nodes.new result }
+    ensures { PutAll nodes.old i (head_nodes (names_of sheet.now (table_of names.now counts)) (Some Operator.AtMost) i (drop k (fields line.now))) nodes.new result }
 {
     let u = stated::numbers::role_use(sheet, names, counts, line, ends, k + 2);
     let m = field::names::count(stated::numbers::nth(line, ends, k + 1));
@@ -154,30 +154,30 @@ fn put_head(
     nodes: &mut [usize],
     i: usize,
     k: usize,
-    o: Operator,
+    o: Option<Operator>,
 ) -> usize
     requires { Tidy sheet.now (table_of names.now counts) × Looked line.now ends.now × (length nodes.old ≡ pack_limit) × (i + nodes_of o ≤ node_limit) × (k < length ends.now) }
     ensures { PutAll nodes.old i (head_nodes (names_of sheet.now (table_of names.now counts)) o i (drop k (fields line.now))) nodes.new result }
 {
     match o {
-        Operator::And => put(nodes, i, Node::And(i + 1, 0)),
-        Operator::Or => put_or(nodes, i),
-        Operator::Not => put(nodes, i, Node::Not(i + 1)),
-        Operator::Some => put_some(sheet, names, counts, line, ends, nodes, i, k),
-        Operator::All => put_every(sheet, names, counts, line, ends, nodes, i, k),
-        Operator::AtLeast => put_at_least(sheet, names, counts, line, ends, nodes, i, k),
-        Operator::AtMost => put_at_most(sheet, names, counts, line, ends, nodes, i, k),
-        Operator::SelfOf => {
+        Some(Operator::And) => put(nodes, i, Node::And(i + 1, 0)),
+        Some(Operator::Or) => put_or(nodes, i),
+        Some(Operator::Not) => put(nodes, i, Node::Not(i + 1)),
+        Some(Operator::Some) => put_some(sheet, names, counts, line, ends, nodes, i, k),
+        Some(Operator::All) => put_every(sheet, names, counts, line, ends, nodes, i, k),
+        Some(Operator::AtLeast) => put_at_least(sheet, names, counts, line, ends, nodes, i, k),
+        Some(Operator::AtMost) => put_at_most(sheet, names, counts, line, ends, nodes, i, k),
+        Some(Operator::SelfOf) => {
             let u = stated::numbers::role_use(sheet, names, counts, line, ends, k + 1);
             put(nodes, i, Node::SelfOf(u))
         }
-        Operator::One => {
+        Some(Operator::One) => {
             let a = stated::numbers::item(sheet, names, counts, line, ends, k + 1);
             put(nodes, i, Node::One(a))
         }
-        Operator::Top => put(nodes, i, Node::Top),
-        Operator::Bot => put_two(nodes, i, Node::Not(i + 1), Node::Top),
-        Operator::None => {
+        Some(Operator::Top) => put(nodes, i, Node::Top),
+        Some(Operator::Bot) => put_two(nodes, i, Node::Not(i + 1), Node::Top),
+        None => {
             let a = stated::numbers::concept(sheet, names, counts, line, ends, k);
             put(nodes, i, Node::Name(a))
         }
@@ -185,22 +185,22 @@ fn put_head(
 }
 
 // How many expressions a word wants.
-fn children(o: Operator) -> usize
+fn children(o: Option<Operator>) -> usize
     ensures { result ≡ children_of o }
 {
     match o {
-        Operator::And => 2,
-        Operator::Or => 2,
-        Operator::Not => 1,
-        Operator::Some => 1,
-        Operator::All => 1,
-        Operator::AtLeast => 1,
-        Operator::AtMost => 1,
-        Operator::SelfOf => 0,
-        Operator::One => 0,
-        Operator::Top => 0,
-        Operator::Bot => 0,
-        Operator::None => 0,
+        Some(Operator::And) => 2,
+        Some(Operator::Or) => 2,
+        Some(Operator::Not) => 1,
+        Some(Operator::Some) => 1,
+        Some(Operator::All) => 1,
+        Some(Operator::AtLeast) => 1,
+        Some(Operator::AtMost) => 1,
+        Some(Operator::SelfOf) => 0,
+        Some(Operator::One) => 0,
+        Some(Operator::Top) => 0,
+        Some(Operator::Bot) => 0,
+        None => 0,
     }
 }
 
@@ -213,29 +213,29 @@ fn fill_and(nodes: &mut [usize], i: usize, len: usize)
 }
 
 // What stands before the nodes of the second child of a word whose nodes begin at a place; gives how many nodes there are then.
-fn join(o: Operator, nodes: &mut [usize], i: usize, len: usize) -> usize
+fn join(o: Option<Operator>, nodes: &mut [usize], i: usize, len: usize) -> usize
     requires { (length nodes.old ≡ pack_limit) × (i + 1 < node_limit) × (len < node_limit) }
     ensures { Joined o nodes.old i len nodes.new result }
 {
     match o {
-        Operator::And => {
+        Some(Operator::And) => {
             fill_and(nodes, i, len);
             len
         }
-        Operator::Or => {
+        Some(Operator::Or) => {
             fill_and(nodes, i + 1, len);
             put(nodes, len, Node::Not(len + 1))
         }
-        Operator::Not => len,
-        Operator::Some => len,
-        Operator::All => len,
-        Operator::AtLeast => len,
-        Operator::AtMost => len,
-        Operator::SelfOf => len,
-        Operator::One => len,
-        Operator::Top => len,
-        Operator::Bot => len,
-        Operator::None => len,
+        Some(Operator::Not) => len,
+        Some(Operator::Some) => len,
+        Some(Operator::All) => len,
+        Some(Operator::AtLeast) => len,
+        Some(Operator::AtMost) => len,
+        Some(Operator::SelfOf) => len,
+        Some(Operator::One) => len,
+        Some(Operator::Top) => len,
+        Some(Operator::Bot) => len,
+        None => len,
     }
 }
 
