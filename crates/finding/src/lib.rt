@@ -15,6 +15,7 @@ use field::Table;
 use field::known::Known;
 use rule::{Head, Node, Rule};
 use sheet::Refused;
+use store::view::View;
 use store::{Concept, Item, Layout, Statement, Store};
 use why::Paths;
 
@@ -70,14 +71,14 @@ fn rule_at(known: &Known, k: usize) -> Option<Rule>
     requires { Accepts known.now.sheet.now (table_of known.now.numbers.now known.now.counts) }
     ensures { Of known.now.sheet.now (table_of known.now.numbers.now known.now.counts) (λ x. RuleFound x k result) }
 {
-    let mut q = sheet::pass::first(known.sheet, known.numbers, known.counts);
+    let mut next = sheet::pass::first(known);
     let mut n = 0;
-    while q.found {
+    while let Some(q) = next {
         if n == k {
             return Some(q.rule);
         }
         n += 1;
-        q = sheet::pass::next(known.sheet, known.numbers, known.counts, q.past, q.line + 1);
+        next = sheet::pass::next(known, q.past, q.line + 1);
     }
     None
 }
@@ -89,12 +90,15 @@ pub fn broken(known: &Known, words: &[u64], at: Layout, k: usize, a: usize) -> O
 {
     let u = rule_at(known, k)?;
     let s = sides_of(u)?;
-    let left = Statement::In(Item(a), Concept(s.left));
-    if !store::look::told(words, at, known.counts, left) {
+    let view = View {
+        words,
+        at,
+        counts: known.counts,
+    };
+    if !view.told(Statement::In(Item(a), Concept(s.left))) {
         return None;
     }
-    let right = Statement::In(Item(a), Concept(s.right));
-    if store::look::told(words, at, known.counts, right) {
+    if view.told(Statement::In(Item(a), Concept(s.right))) {
         return None;
     }
     Some(s)

@@ -43,8 +43,8 @@ fn head_fields(o: Option<Operator>) -> usize
     ensures { result ≡ head_fields o }
 {
     match o {
-        Some(Operator::AtLeast) | Some(Operator::AtMost) => 3,
-        Some(Operator::Some) | Some(Operator::All) | Some(Operator::SelfOf) | Some(Operator::One) => 2,
+        Some(Operator::AtLeast | Operator::AtMost) => 3,
+        Some(Operator::Some | Operator::All | Operator::SelfOf | Operator::One) => 2,
         _ => 1,
     }
 }
@@ -131,8 +131,8 @@ fn children(o: Option<Operator>) -> usize
     ensures { result ≡ children_of o }
 {
     match o {
-        Some(Operator::And) | Some(Operator::Or) => 2,
-        Some(Operator::SelfOf) | Some(Operator::One) | Some(Operator::Top) | Some(Operator::Bot) | None => 0,
+        Some(Operator::And | Operator::Or) => 2,
+        Some(Operator::SelfOf | Operator::One | Operator::Top | Operator::Bot) | None => 0,
         _ => 1,
     }
 }
