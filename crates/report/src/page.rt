@@ -21,23 +21,17 @@ fn judge_all(known: &Known, start: Start, words: &[u64], at: Layout, room: &mut 
     requires { Judges at.width known.now.sheet.now (table_of known.now.numbers.now known.now.counts) words.now × Since at.width known.now.sheet.now start × Laid at words.now }
     ensures { JudgedAll at.width known.now.sheet.now (table_of known.now.numbers.now known.now.counts) words.now room.old room.new result }
 {
-    let mut q = sheet::pass::next(
-        known.sheet,
-        known.numbers,
-        known.counts,
-        start.at,
-        start.line,
-    );
+    let mut next = sheet::pass::next(known, start.at, start.line);
     let mut n = 0;
     let mut b = Tally {
         at: 0,
         left: Sheet::PRINTED,
         total: 0,
     };
-    while q.found {
+    while let Some(q) = next {
         b = printed::judge(known, q.line, n, q.rule, words, at, room, b);
         n += 1;
-        q = sheet::pass::next(known.sheet, known.numbers, known.counts, q.past, q.line + 1);
+        next = sheet::pass::next(known, q.past, q.line + 1);
     }
     b
 }

@@ -72,11 +72,7 @@ fn seek(known: &Known, words: &[u64], from: usize, first: usize, rule: usize) ->
     let mut past = from;
     let mut line = first;
     let mut number = rule;
-    loop {
-        let r = sheet::pass::next(known.sheet, known.numbers, known.counts, past, line);
-        if !r.found {
-            return ended(known.counts, past, line, number);
-        }
+    while let Some(r) = sheet::pass::next(known, past, line) {
         let p = judge::seek::start(words, at, known.counts, number, r.rule, 0);
         let more = sheet::reads::counted(p.answer);
         past = r.past;
@@ -92,6 +88,7 @@ fn seek(known: &Known, words: &[u64], from: usize, first: usize, rule: usize) ->
             };
         }
     }
+    ended(known.counts, past, line, number)
 }
 
 // The trail at the next finding: of the same rule, or of the next one that has any.

@@ -1,5 +1,5 @@
 -- From the rules that are judged in turn to the page. Assumes nothing.
-use Rattle.std.specs.Prelude.{◌≡◌, refl, true, List, [], ◌∷◌, ◌++◌, ℕ, ◌+◌, length}
+use Rattle.std.specs.Prelude.{◌≡◌, refl, true, List, [], ◌∷◌, ◌++◌, ℕ, ◌+◌, length, Option, Some}
 use Rattle.std.proofs.Common.{sym, ap, ◌∙◌, subst, ne_eqb}
 use Rattle.std.proofs.lemmas.List.Edits.{sets}
 use Rattle.row.specs.Bit.{Words}
@@ -27,9 +27,9 @@ use Rattle.report.specs.Promise.PrintsIn.{wrong_size, printed}
 use Rattle.report.specs.laws.Printed.{printed-all, printed-more}
 
 -- one rule more is judged, in its turn
-pub turn-printed : {W : ℕ} {sheet : List ℕ} {t : Table} {x : Said} {s room mid exit : List ℕ} {b r : Tally} {q : RuleLine} {n at : ℕ} (w : Turn sheet t x (λ (done : List SheetRule). Printed W x s done room at mid b) q n) → q.found ≡ true
+pub turn-printed : {W : ℕ} {sheet : List ℕ} {t : Table} {x : Said} {s room mid exit : List ℕ} {b r : Tally} {o : Option RuleLine} {q : RuleLine} {n at : ℕ} (w : Turn sheet t x (λ (done : List SheetRule). Printed W x s done room at mid b) o n) → o ≡ Some q
     → counts_of x.names ≡ t.counts → x.names ≡ names_of sheet t → Tallied W s t.counts n q.rule (names_of sheet t) q.line mid b exit r → Printed W x s (w.done ++ found_rule q ∷ []) room at exit r
-turn-printed {q = q} w f c m z = let y = turn-rules w f in printed-more (found_rule q) y.0 y.1 w.holds (rw (c, m, ← w.number) z)
+turn-printed {q = q} w f c m z = let y = turn-rules w q f in printed-more (found_rule q) y.0 y.1 w.holds (rw (c, m, ← w.number) z)
 
 module _ {W : ℕ} {sheet numbers t : List ℕ} {e : Ended} (w : Filled W sheet numbers t e) where
   -- a refused sheet

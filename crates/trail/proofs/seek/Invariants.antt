@@ -6,8 +6,8 @@ use Rattle.sheet.specs.own.Pass.{Paused}
 use Rattle.trail.specs.own.Trail.{Beyond}
 use Rattle.trail.proofs.seek.Given as goal
 
-abbrev pub invariant-loop-at : goal.invariant-loop-at
-invariant-loop-at l = Paused l.known.sheet.now (table_of l.known.numbers.now l.known.counts) l.past l.line × (l.number ≤ l.past) × ((fs : List Finding) → Beyond l.known.sheet.now l.words (table_of l.known.numbers.now l.known.counts) l.from l.first l.rule fs → Beyond l.known.sheet.now l.words (table_of l.known.numbers.now l.known.counts) l.past l.line l.number fs)
+abbrev pub invariant-loop-r : goal.invariant-loop-r
+invariant-loop-r l = Paused l.known.sheet.now (table_of l.known.numbers.now l.known.counts) l.past l.line × (l.number ≤ l.past) × ((fs : List Finding) → Beyond l.known.sheet.now l.words (table_of l.known.numbers.now l.known.counts) l.from l.first l.rule fs → Beyond l.known.sheet.now l.words (table_of l.known.numbers.now l.known.counts) l.past l.line l.number fs)
 
-abbrev pub decreases-loop-at : goal.decreases-loop-at
-decreases-loop-at l = length l.known.sheet.now + 3 - l.past
+abbrev pub decreases-loop-r : goal.decreases-loop-r
+decreases-loop-r l = length l.known.sheet.now + 3 - l.past

@@ -1,5 +1,5 @@
 -- Laws of a trail along the findings of all rules of a sheet. Assumes nothing.
-use Rattle.std.specs.Prelude.{◌≡◌, refl, Bool, true, false, List, [], ◌∷◌, ◌++◌, ℕ, suc, ◌+◌, ◌-◌, ◌≤◌, ◌<◌, length, get_or, take, drop}
+use Rattle.std.specs.Prelude.{◌≡◌, refl, Option, Some, None, List, [], ◌∷◌, ◌++◌, ℕ, suc, ◌+◌, ◌-◌, ◌≤◌, ◌<◌, length, get_or, take, drop}
 use Rattle.std.proofs.Common.{sym, ap, ◌∙◌, subst, add-one, arith, length-append, drop_of_length-le}
 use Rattle.std.proofs.Math.Seq.{append_snoc, drop-append_seam, take-append_seam}
 use Rattle.store.specs.declared.Counts.{Counts}
@@ -53,29 +53,29 @@ record RuleThen (sheet s : List ℕ) (names : Table) (k : ℕ) (r : RuleLine) (f
   beyond : Beyond sheet s names r.past (r.line + 1) (k + 1) later
 
 -- the reading pauses past it
-pub beyond-paused : {sheet : List ℕ} {names : Table} {past line : ℕ} {r : RuleLine} → Next sheet names past line r → r.found ≡ true → Paused sheet names past line → Paused sheet names r.past (r.line + 1)
+pub beyond-paused : {sheet : List ℕ} {names : Table} {past line : ℕ} {o : Option RuleLine} {r : RuleLine} → Next sheet names past line o → o ≡ Some r → Paused sheet names past line → Paused sheet names r.past (r.line + 1)
 beyond-paused {sheet} {names} {r = r} n e p = record {
   all = p.all;
   before = p.before ++ found_rule r ∷ [];
-  passing = subst (λ (t : Bool). NextRule t sheet names p.all p.before r) e (n.rule p.all p.before p.passing);
+  passing = subst (NextRule sheet names p.all p.before) e (n.rule p.all p.before p.passing);
 }
 
-module _ (sheet s : List ℕ) (names : Table) (past line k : ℕ) (r : RuleLine) (n : Next sheet names past line r) where
+module _ (sheet s : List ℕ) (names : Table) (past line k : ℕ) (o : Option RuleLine) (n : Next sheet names past line o) where
   -- the findings of rules from a number on
   abbrev From : ℕ → List SheetRule → List Finding → Type 0
   From i rs fs = FindingsFrom (Holds (width_of s) names.counts s) names.counts i rs fs
 
   -- there is no rule next: there are no findings
-  beyond-none : {fs : List Finding} → r.found ≡ false → Beyond sheet s names past line k fs → fs ≡ []
+  beyond-none : {fs : List Finding} → o ≡ None → Beyond sheet s names past line k fs → fs ≡ []
   beyond-none {fs} e b =
-      let z : b.said.rules ≡ b.done = subst (λ (t : Bool). NextRule t sheet names b.said b.done r) e (n.rule b.said b.done b.passing) in
+      let z : b.said.rules ≡ b.done = subst (NextRule sheet names b.said b.done) e (n.rule b.said b.done b.passing) in
       let h : length b.done ≤ k = omega (arith, b.number) in
       let d : drop k b.said.rules ≡ [] = ap (drop k) z ∙ drop_of_length-le b.done h in
       from-none (subst (λ (rs : List SheetRule). From k rs fs) d b.findings)
 
   -- there is one
-  beyond-rule : {fs : List Finding} → r.found ≡ true → Beyond sheet s names past line k fs → RuleThen sheet s names k r fs
-  beyond-rule {fs} e b = record {
+  beyond-rule : (r : RuleLine) {fs : List Finding} → o ≡ Some r → Beyond sheet s names past line k fs → RuleThen sheet s names k r fs
+  beyond-rule r {fs} e b = record {
     here = p.here;
     later = p.later;
     all = p.all;
@@ -96,7 +96,7 @@ module _ (sheet s : List ℕ) (names : Table) (past line k : ℕ) (r : RuleLine)
       more-done = b.done ++ q ∷ []
 
       z : Passing sheet names b.said more-done r.past (r.line + 1)
-      z = subst (λ (t : Bool). NextRule t sheet names b.said b.done r) e (n.rule b.said b.done b.passing)
+      z = subst (NextRule sheet names b.said b.done) e (n.rule b.said b.done b.passing)
 
       w : (rest : List SheetRule) × (b.said.rules ≡ more-done ++ rest)
       w = passing-rest z
@@ -114,7 +114,7 @@ module _ (sheet s : List ℕ) (names : Table) (past line k : ℕ) (r : RuleLine)
       p = from_more (subst (λ (rs : List SheetRule). From k rs fs) at-it b.findings)
 
   -- no rule is left
-  pub sought-none : {c : Trail} → r.found ≡ false → ClosedStore (width_of s) names.counts s → Paused sheet names past line → k ≤ past → Ended past line k c
+  pub sought-none : {c : Trail} → o ≡ None → ClosedStore (width_of s) names.counts s → Paused sheet names past line → k ≤ past → Ended past line k c
       → Sought sheet names s past line k c
   sought-none {c} e m p h z = rw (z.past-kept, z.line_kept, z.number-kept) (record {
     going = record { ready = λ i. absurd (omega (arith, z.more)); store = m; paused = p; few = h };
@@ -122,7 +122,7 @@ module _ (sheet s : List ℕ) (names : Table) (past line k : ℕ) (r : RuleLine)
   })
 
   -- its findings are those that were sought
-  module _ {at : Layout} {p : Prepared} (e : r.found ≡ true) (l : at ≡ layout_of (width_of s)) (z : Starts s at names.counts k r.rule 0 p) where
+  module _ (r : RuleLine) {at : Layout} {p : Prepared} (e : o ≡ Some r) (l : at ≡ layout_of (width_of s)) (z : Starts s at names.counts k r.rule 0 p) where
     -- the list that the search began with is that of the rule's findings
     started : {fs : List Finding} (t : RuleThen sheet s names k r fs) → z.list ≡ t.here
     started t = findings-unique (subst (λ (a : Layout). Findings (Holds a.width names.counts s) names.counts k r.rule z.list) l z.findings) t.findings
@@ -133,21 +133,21 @@ module _ (sheet s : List ℕ) (names : Table) (past line k : ℕ) (r : RuleLine)
 
     -- none: the findings are those past it
     pub beyond-on : {fs : List Finding} → counted_in p.answer ≡ 0 → Beyond sheet s names past line k fs → Beyond sheet s names r.past (r.line + 1) (k + 1) fs
-    beyond-on {fs} o b = go t t.here refl
+    beyond-on {fs} c b = go t t.here refl
       where
         t : RuleThen sheet s names k r fs
-        t = beyond-rule e b
+        t = beyond-rule r e b
 
         go : (t : RuleThen sheet s names k r fs) (hs : List Finding) → hs ≡ t.here → Beyond sheet s names r.past (r.line + 1) (k + 1) fs
         go t [] q = subst (Beyond sheet s names r.past (r.line + 1) (k + 1)) (sym (t.all ∙ ap (λ (hs : List Finding). hs ++ t.later) (sym q))) t.beyond
-        go t (g ∷ gs) q = absurd (omega (arith, o, counts, ap length (started t), ap length q))
+        go t (g ∷ gs) q = absurd (omega (arith, c, counts, ap length (started t), ap length q))
 
     -- some: the trail stands at the first
     pub sought-some : ClosedStore (width_of s) names.counts s → Paused sheet names past line → k ≤ past → 0 < counted_in p.answer
         → Sought sheet names s past line k (record { search = p.search; more = counted_in p.answer; past = r.past; line = r.line + 1; number = k + 1 })
-    sought-some m a h o = record {
-      going = record { ready = λ i. z.ready; store = m; paused = beyond-paused n e a; few = omega (arith, n.later) };
-      onward = λ fs b. let t = beyond-rule e b in record {
+    sought-some m a h c = record {
+      going = record { ready = λ i. z.ready; store = m; paused = beyond-paused n e a; few = omega (arith, n.later r e) };
+      onward = λ fs b. let t = beyond-rule r e b in record {
         here = t.here;
         later = t.later;
         all = t.all;
