@@ -10,10 +10,9 @@ pub struct Printed {
     pub total: usize,
 }
 
-// The item and the concept of a cell that is absent, if there is one to be printed.
+// The item and the concept of a cell that is absent.
 #[derive(Clone, Copy)]
 pub struct Absent {
-    pub on: bool,
     pub item: usize,
     pub concept: usize,
 }

@@ -1,36 +1,28 @@
 // The lines that are printed for a question. What is public here is a part with a `requires`, not an entry point.
 ghost use Rattle.std.specs.Prelude.{◌≡◌, true, false, cond, [], ◌+◌, ◌*◌, ◌≤◌, ◌<◌, length, get_or};
-ghost use Rattle.field.specs.own.Line.{Looked};
-ghost use Rattle.text.specs.Split.{fields};
 ghost use Rattle.text.specs.Text.{Wrote};
 ghost use Rattle.field.specs.Words.{form_of};
-ghost use Rattle.field.specs.own.Table.{Tidy, names_of, table_of};
+ghost use Rattle.field.specs.own.Known.{fields_in, names_in};
 ghost use Rattle.row.specs.own.Row.{row_hasb};
 ghost use Rattle.reason.specs.own.Picked.{mark_words};
 ghost use Rattle.cited.specs.Text.{numbered_text};
 ghost use Rattle.cited.specs.own.Writing.{Accepted, LinesPut, PutIf, ReasonPut, absent_if, statement_form};
 
 use crate::{Absent, Printed};
+use field::known::{Fields, Known};
 use field::{Form, Table};
 use line::Sheet;
 use reason::Lines;
-use store::{Counts, Item};
+use store::Item;
 
 // Whether a line is that of a statement.
-fn is_statement(line: &[u8], ends: &[u16]) -> bool
-    requires { Looked line.now ends.now }
-    ensures { result ≡ statement_form (form_of (fields line.now)) }
+fn is_statement(fields: &Fields) -> bool
+    ensures { result ≡ statement_form (form_of (fields_in fields.now)) }
 {
-    let f = field::words::form(line, ends);
-    match f {
-        Form::Concept => false,
-        Form::Role => false,
-        Form::Item => false,
-        Form::Statement(_) => true,
-        Form::Rule(_) => false,
-        Form::Bare => false,
-        Form::Unknown => false,
-    }
+    matches!(
+        field::words::form(fields.line, fields.ends),
+        Form::Statement(_)
+    )
 }
 
 // Writes a line of the sheet: `line`, its number, its own bytes.
@@ -64,10 +56,7 @@ fn marked_if(on: bool, marks: &[u64; Lines::WORDS], n: usize) -> bool
     requires { on ≡ true → n < 64 * mark_words }
     ensures { result ≡ cond on (row_hasb marks.now n) false }
 {
-    if on {
-        return reason::marks::has(marks, n);
-    }
-    false
+    on && reason::marks::has(marks, n)
 }
 
 // One more, if `on`.
@@ -93,65 +82,55 @@ fn put_lines(sheet: &[u8], marks: &[u64; Lines::WORDS], room: &mut [u8]) -> Prin
     let mut p = Printed { at: 0, total: 0 };
     while at <= sheet.len() {
         let s = reader::line::look_from(sheet, at, &mut ends);
-        let end = s.end;
-        let k = row::number::lesser(s.count, Sheet::FIELDS);
-        let bytes = &sheet[at..end];
-        let stated = is_statement(bytes, &ends[..k]);
+        let k = s.count.min(Sheet::FIELDS);
+        let fields = Fields {
+            line: &sheet[at..s.end],
+            ends: &ends[..k],
+        };
+        let stated = is_statement(&fields);
         let on = marked_if(stated, marks, n);
-        p = put_line_if(room, p, line, bytes, on);
+        p = put_line_if(room, p, line, fields.line, on);
         n = more_if(stated, n);
         line += 1;
-        at = end + 1;
+        at = s.end + 1;
     }
     p
 }
 
 // The name of a concept; no bytes where there is none with that number.
-fn concept<'a>(sheet: &'a [u8], names: &[u32], counts: Counts, c: usize) -> &'a [u8]
-    requires { Tidy sheet.now (table_of names.now counts) }
-    ensures { result.now ≡ get_or (names_of sheet.now (table_of names.now counts)).concepts c [] }
+fn concept<'a>(known: &Known<'a>, c: usize) -> &'a [u8]
+    ensures { result.now ≡ get_or (names_in known.now).concepts c [] }
 {
-    if c < counts.concepts {
-        return field::names::name_at(sheet, names[Table::CONCEPTS + c]);
+    if c < known.counts.concepts {
+        return field::names::name_at(known.sheet, known.numbers[Table::CONCEPTS + c]);
     }
-    text::part::part(sheet, 0, 0)
+    text::part::part(known.sheet, 0, 0)
 }
 
 // Writes what is absent, if it is to be printed: `absent`, `in`, item, concept.
-fn put_absent(
-    sheet: &[u8],
-    names: &[u32],
-    counts: Counts,
-    a: Absent,
-    room: &mut [u8],
-    at: usize,
-) -> usize
-    requires { Tidy sheet.now (table_of names.now counts) × (at ≤ 500000) }
-    ensures { Wrote room.old at (absent_if (names_of sheet.now (table_of names.now counts)) a) room.new result × (result ≤ at + 80) }
+fn put_absent(known: &Known, absent: Option<Absent>, room: &mut [u8], at: usize) -> usize
+    requires { at ≤ 500000 }
+    ensures { Wrote room.old at (absent_if (names_in known.now) absent) room.new result × (result ≤ at + 80) }
 {
-    if a.on {
-        let word = text::write::put_all(room, at, b"absent\tin");
-        let item = printed::put_name(sheet, names, counts, Item(a.item), room, word);
-        let tab = text::write::put(room, item, 9);
-        let name = text::write::put_all(room, tab, concept(sheet, names, counts, a.concept));
-        return text::write::put(room, name, 10);
-    }
-    at
+    let Some(a) = absent else { return at };
+    let word = text::write::put_all(room, at, b"absent\tin");
+    let item = printed::put_name(known, Item(a.item), room, word);
+    let tab = text::write::put(room, item, 9);
+    let name = text::write::put_all(room, tab, concept(known, a.concept));
+    text::write::put(room, name, 10)
 }
 
 // Writes the text of the statements marked, from the room's start on and as far as it reaches: their lines, what is absent, the total; gives its length.
 pub fn put_reason(
-    sheet: &[u8],
-    names: &[u32],
-    counts: Counts,
+    known: &Known,
     marks: &[u64; Lines::WORDS],
-    a: Absent,
+    absent: Option<Absent>,
     room: &mut [u8],
 ) -> usize
-    requires { Tidy sheet.now (table_of names.now counts) × Accepted sheet.now }
-    ensures { ReasonPut sheet.now (names_of sheet.now (table_of names.now counts)) a marks.now room.old room.new result }
+    requires { Accepted known.now.sheet.now }
+    ensures { ReasonPut known.now.sheet.now (names_in known.now) absent marks.now room.old room.new result }
 {
-    let p = put_lines(sheet, marks, room);
-    let at = put_absent(sheet, names, counts, a, room, p.at);
+    let p = put_lines(known.sheet, marks, room);
+    let at = put_absent(known, absent, room, p.at);
     printed::total(room, at, p.total as u64)
 }

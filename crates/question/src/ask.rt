@@ -1,26 +1,22 @@
 // The cell that a question asks for. What is public here is a part for `answer`, not an entry point.
-ghost use Rattle.std.specs.Prelude.{◌≡◌, false};
-ghost use Rattle.field.specs.own.Line.{Looked};
-ghost use Rattle.text.specs.Split.{fields};
-ghost use Rattle.field.specs.own.Table.{Tidy, names_of, table_of};
+ghost use Rattle.std.specs.Prelude.{◌≡◌};
+ghost use Rattle.field.specs.own.Known.{fields_in, names_in};
 ghost use Rattle.field.specs.Words.{body_of, form_of};
 ghost use Rattle.question.specs.Question.{about_finding, bare as bare_of};
 ghost use Rattle.question.specs.own.Asked.{Asking, FormAsked};
 
-use crate::CellAsked;
 use field::Form;
+use field::known::{Fields, Known};
 use line::{Marks, Sheet};
-use store::{Counts, Item, Statement};
+use store::Statement;
 
 // The question without a line feed at its end.
 pub fn bare(question: &[u8]) -> &[u8]
     ensures { result.now ≡ bare_of question.now }
 {
     let n = question.len();
-    if 0 < n {
-        if question[n - 1] == 10 {
-            return text::part::part(question, 0, n - 1);
-        }
+    if 0 < n && question[n - 1] == 10 {
+        return text::part::part(question, 0, n - 1);
     }
     question
 }
@@ -32,43 +28,30 @@ pub fn about_finding(q: &[u8]) -> bool
     text::part::same(reader::line::field(q, 0), b"finding")
 }
 
-// No cell.
-fn no_cell() -> CellAsked
-    ensures { result.asked ≡ false }
+// The cell that a question with nothing wrong with it asks for, as the statement that states it, if it is a statement.
+fn stated(known: &Known, q: &Fields) -> Option<Statement>
+    ensures { FormAsked (names_in known.now) (form_of (fields_in q.now)) (body_of (fields_in q.now)) result }
 {
-    CellAsked {
-        asked: false,
-        cell: Statement::Same(Item(0), Item(0)),
+    match field::words::form(q.line, q.ends) {
+        Form::Statement(w) => Some(stated::statements::statement(
+            known.sheet,
+            known.numbers,
+            known.counts,
+            q.line,
+            q.ends,
+            1,
+            w,
+        )),
+        _ => None,
     }
 }
 
-// The cell that a question with nothing wrong with it asks for, if it is a statement.
-fn stated(sheet: &[u8], names: &[u32], counts: Counts, q: &[u8], ends: &[u16]) -> CellAsked
-    requires { Tidy sheet.now (table_of names.now counts) × Looked q.now ends.now }
-    ensures { FormAsked (names_of sheet.now (table_of names.now counts)) (form_of (fields q.now)) (body_of (fields q.now)) result }
-{
-    let f = field::words::form(q, ends);
-    match f {
-        Form::Concept => no_cell(),
-        Form::Role => no_cell(),
-        Form::Item => no_cell(),
-        Form::Statement(w) => {
-            let cell = stated::statements::statement(sheet, names, counts, q, ends, 1, w);
-            CellAsked { asked: true, cell }
-        }
-        Form::Rule(_) => no_cell(),
-        Form::Bare => no_cell(),
-        Form::Unknown => no_cell(),
-    }
-}
-
-// The cell that a question asks for, if it is a statement with nothing wrong with it.
-pub fn cell(sheet: &[u8], names: &[u32], counts: Counts, q: &[u8]) -> CellAsked
-    requires { Tidy sheet.now (table_of names.now counts) }
-    ensures { Asking result.asked (names_of sheet.now (table_of names.now counts)) q.now result }
+// The cell that a question asks for, as the statement that states it, if it is a statement with nothing wrong with it.
+pub fn cell(known: &Known, q: &[u8]) -> Option<Statement>
+    ensures { Asking (names_in known.now) q.now result }
 {
     if Sheet::LINE < q.len() {
-        return no_cell();
+        return None;
     }
     let m = Marks {
         stated: true,
@@ -77,11 +60,24 @@ pub fn cell(sheet: &[u8], names: &[u32], counts: Counts, q: &[u8]) -> CellAsked
     let mut ends = [0u16; Sheet::FIELDS];
     let s = reader::line::look_from(q, 0, &mut ends);
     if s.end < q.len() {
-        return no_cell();
+        return None;
     }
-    let n = row::number::lesser(s.count, Sheet::FIELDS);
-    if line::lines::line_fault(sheet, names, counts, m, q, s.good, &ends[..n]) == 0 {
-        return stated(sheet, names, counts, q, &ends[..n]);
+    let n = s.count.min(Sheet::FIELDS);
+    let fault = line::lines::line_fault(
+        known.sheet,
+        known.numbers,
+        known.counts,
+        m,
+        q,
+        s.good,
+        &ends[..n],
+    );
+    if fault != 0 {
+        return None;
     }
-    no_cell()
+    let fields = Fields {
+        line: q,
+        ends: &ends[..n],
+    };
+    stated(known, &fields)
 }

@@ -1,5 +1,5 @@
 -- How the lines of a reason are written.
-use Rattle.std.specs.Prelude.{◌≡◌, Bool, true, false, cond, List, [], ℕ, ◌+◌, ◌*◌, ◌≤◌, length}
+use Rattle.std.specs.Prelude.{◌≡◌, Bool, true, false, cond, Option, Some, None, List, [], ℕ, ◌+◌, ◌*◌, ◌≤◌, length}
 use Rattle.reason.specs.own.Picked.{mark_words, picked}
 use Rattle.text.specs.Text.{Wrote}
 use Rattle.field.specs.declared.Form.{Form}
@@ -43,10 +43,11 @@ pub record LinesPut (sheet marks room exit : List ℕ) (r : Printed) : Type 0 wh
   pub few : r.total ≤ 500000
 
 -- what is absent, if it is to be printed
-abbrev pub absent_if : Names → Absent → List ℕ
-absent_if n a = cond a.on (absent_text n a.item a.concept) []
+abbrev pub absent_if : Names → Option Absent → List ℕ
+absent_if n (Some a) = absent_text n a.item a.concept
+absent_if n None = []
 
 -- the whole text of the statements marked is written from the room's start on, as far as it reaches
-pub record ReasonPut (sheet : List ℕ) (n : Names) (a : Absent) (marks room exit : List ℕ) (r : ℕ) : Type 0 where
+pub record ReasonPut (sheet : List ℕ) (n : Names) (a : Option Absent) (marks room exit : List ℕ) (r : ℕ) : Type 0 where
   pub wrote : (W : ℕ) (x : Said) → outcome W sheet ≡ accepted x → Wrote room 0 (reason_text sheet (picked marks (lines_of x.statements)) (absent_if n a)) exit r
   pub short : r ≤ 800000

@@ -1,17 +1,9 @@
 -- `cited::print::concept` meets its contract. Assumes nothing.
-use mathlib.Core.Path.{sym, ◌∙◌}
-use native.Mathlib.Omega.{arith}
+use Rattle.std.proofs.Common.{arith, sym, ◌∙◌}
 use Rattle.field.specs.laws.Table.{entered_at}
-use Rattle.printed.specs.laws.Lines.{name-none}
 use Rattle.field.specs.own.Table.{concepts_from}
 use Rattle.cited.proofs.print.concept.Goals as goal
 
-pub returns-then-c-counts : goal.returns-then-c-counts
-returns-then-c-counts c = let x = c.args in
-    let y = c.requires in
-    c.name_at.ensures ∙ sym (entered_at x.sheet.now x.names.now concepts_from x.counts.concepts (omega (arith, y.long, y.room.concepts)) x.c c.if-c-counts.true)
-
-pub returns : goal.returns
-returns c = let x = c.args in
-    let y = c.requires in
-    c.part.ensures ∙ name-none x.sheet.now x.names.now concepts_from x.counts.concepts (omega (arith, y.long, y.room.concepts)) x.c (omega (arith, c.if-c-counts.false))
+pub returns-then-c-known : goal.returns-then-c-known
+returns-then-c-known c = let k = c.args.known.now in
+    c.name_at.ensures ∙ sym (entered_at k.sheet.now k.numbers.now concepts_from k.counts.concepts (omega (arith, k.tidy.long, k.tidy.room.concepts)) c.args.c c.if-c-known.true)

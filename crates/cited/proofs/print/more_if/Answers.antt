@@ -1,5 +1,5 @@
 -- `cited::print::more_if` meets its contract. Assumes nothing.
-use native.Mathlib.Omega.{arith}
+use Rattle.std.proofs.Common.{arith}
 use Rattle.cited.proofs.print.more_if.Goals as goal
 
 pub returns-then-on : goal.returns-then-on

@@ -1,5 +1,5 @@
 -- `cited::print::put_line` meets its contract. Assumes nothing.
-use native.Mathlib.Omega.{arith}
+use Rattle.std.proofs.Common.{arith}
 use Rattle.text.specs.laws.Text.{wrote_then}
 use Rattle.cited.specs.Text.{numbered_text}
 use Rattle.cited.proofs.print.put_line.Goals as goal

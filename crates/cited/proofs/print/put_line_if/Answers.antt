@@ -1,5 +1,5 @@
 -- `cited::print::put_line_if` meets its contract. Assumes nothing.
-use native.Mathlib.Omega.{arith}
+use Rattle.std.proofs.Common.{arith}
 use Rattle.text.specs.laws.Text.{wrote_none}
 use Rattle.cited.proofs.print.put_line_if.Goals as goal
 

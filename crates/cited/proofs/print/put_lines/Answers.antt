@@ -1,11 +1,5 @@
 -- `cited::print::put_lines` meets its contract. Assumes nothing.
--- the line at a place, by its end
-use native.Mathlib.Omega.{arith}
-use mathlib.Core.Path.{◌≡◌, refl, sym, ap, ◌∙◌}
-use mathlib.Core.Bool.{Bool, false, cond}
-use mathlib.Core.List.{List}
-use Prim.Native.Nat.{ℕ, ◌+◌, ◌-◌, min, zero-le}
-use lib.Seq.{length-take-le}
+use Rattle.std.proofs.Common.{Bool, List, false, ◌≡◌, ◌+◌, ◌-◌, ◌∙◌, ap, arith, cond, min, refl, sym, zero-le, ℕ}
 use Rattle.row.specs.own.Row.{row_hasb}
 use Rattle.reader.specs.own.Scan.{line_at}
 use Rattle.text.specs.own.Split.{end_of, part_of}
@@ -14,6 +8,7 @@ use Rattle.field.specs.laws.Looked.{looked}
 use Rattle.cited.specs.laws.Writing.{one_at_most, part_length, room-grows, sheet-short, standing-start, written-end, written-few, written_next, written-short, written_start}
 use Rattle.cited.proofs.print.put_lines.Goals as goal
 
+-- the line at a place, by its end
 line-is : (sheet : List ℕ) (at : ℕ) {e : ℕ} → e ≡ end_of 10 sheet at → part_of sheet at (e - at) ≡ line_at sheet at
 line-is sheet at h = ap (λ (i : ℕ). part_of sheet at (i - at)) h
 
@@ -26,24 +21,18 @@ loop-at-init c = ((λ W x o. written_start (standing-start W c.args.sheet.now x 
 pub look_from-s-requires : goal.look_from-s-requires
 look_from-s-requires c = (omega arith, omega (arith, sheet-short c.requires))
 
-pub slice_bounds-bytes-count : goal.slice_bounds-bytes-count
-slice_bounds-bytes-count c = omega (arith, c.look_from-s.ensures.end, end_ge 10 c.args.sheet.now c.loop-at.at)
+pub slice_bounds-fields-count : goal.slice_bounds-fields-count
+slice_bounds-fields-count c = omega (arith, c.look_from-s.ensures.end, end_ge 10 c.args.sheet.now c.loop-at.at)
 
-pub slice_bounds-bytes-start : goal.slice_bounds-bytes-start
-slice_bounds-bytes-start c = omega (arith, c.look_from-s.ensures.end, end_ge 10 c.args.sheet.now c.loop-at.at)
+pub slice_bounds-fields-start : goal.slice_bounds-fields-start
+slice_bounds-fields-start c = omega (arith, c.look_from-s.ensures.end, end_ge 10 c.args.sheet.now c.loop-at.at)
 
-pub slice_bounds-bytes-end : goal.slice_bounds-bytes-end
-slice_bounds-bytes-end c = omega (arith, c.look_from-s.ensures.end, end-le 10 c.args.sheet.now c.loop-at.at (omega arith))
+pub slice_bounds-fields-end : goal.slice_bounds-fields-end
+slice_bounds-fields-end c = omega (arith, c.look_from-s.ensures.end, end-le 10 c.args.sheet.now c.loop-at.at (omega arith))
 
-pub slice_bounds-ends-end : goal.slice_bounds-ends-end
-slice_bounds-ends-end c = omega (arith, c.lesser-k.ensures)
-
-pub slice_bounds-is_statement-end : goal.slice_bounds-is_statement-end
-slice_bounds-is_statement-end c = sym (length-take-le _ _ (omega (arith, c.lesser-k.ensures, c.ends-in-loop-at-1.given)))
-
-pub is_statement-stated-requires : goal.is_statement-stated-requires
-is_statement-stated-requires c = let few = written-short (c.loop-at.invariant.0 c.requires.width c.requires.said c.requires.ends) c.look_from-s.result.end (line_at c.args.sheet.now c.loop-at.at) (omega (arith, c.loop-at-test.true)) c.look_from-s.ensures.end refl in
-    rw c.look_from-s.ensures.end (looked c.look_from-s.ensures _ (c.lesser-k.ensures ∙ ap (min c.look_from-s.result.count) (sym c.loop-at.invariant.7)) (omega (arith, few, c.loop-at.invariant.7)))
+pub invariant_of-fields : goal.invariant_of-fields
+invariant_of-fields c = let few = written-short (c.loop-at.invariant.0 c.requires.width c.requires.said c.requires.ends) c.look_from-s.result.end (line_at c.args.sheet.now c.loop-at.at) (omega (arith, c.loop-at-test.true)) c.look_from-s.ensures.end refl in
+    record { looked = rw c.look_from-s.ensures.end (looked c.look_from-s.ensures _ (c.min-k.ensures ∙ ap (min c.look_from-s.result.count) (sym c.loop-at.invariant.7)) (omega (arith, few, c.loop-at.invariant.7))) }
 
 pub marked_if-on-requires : goal.marked_if-on-requires
 marked_if-on-requires c = λ e. omega (arith, c.requires.few, written-few (c.loop-at.invariant.0 c.requires.width c.requires.said c.requires.ends) _ _ (omega (arith, c.loop-at-test.true)) c.look_from-s.ensures.end (line-is c.args.sheet.now c.loop-at.at c.look_from-s.ensures.end) (sym c.is_statement-stated.ensures ∙ e))
@@ -72,8 +61,8 @@ loop-at-preserved c = let long = part_length c.args.sheet.now c.loop-at.at c.loo
       omega (arith, c.put_line_if-p.ensures.total, one_at_most c.marked_if-on.result, c.loop-at.invariant.3, past, c.look_from-s.ensures.end),
       omega (arith, c.more_if-n.ensures, one_at_most c.is_statement-stated.result, c.loop-at.invariant.4, past, c.look_from-s.ensures.end),
       omega (arith, c.look_from-s.ensures.end, end-le 10 c.args.sheet.now c.loop-at.at (omega (arith, c.loop-at-test.true))),
-      c.room-1.given ∙ c.loop-at.invariant.6,
-      c.ends-in-loop-at-1.given,
+      c.put_line_if-p.auto.room ∙ c.loop-at.invariant.6,
+      c.look_from-s.auto.ends ∙ c.loop-at.invariant.7,
     )
 
 pub returns : goal.returns

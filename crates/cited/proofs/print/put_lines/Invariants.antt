@@ -1,8 +1,5 @@
 -- `cited::print::put_lines` meets its contract. Assumes nothing.
--- the line at a place, by its end
-use mathlib.Core.Path.{◌≡◌}
-use Prim.Native.Nat.{ℕ, ◌+◌, ◌-◌, ◌*◌, ◌≤◌}
-use lib.ListN.{length}
+use Rattle.std.proofs.Common.{ℕ, length, ◌≡◌, ◌+◌, ◌-◌, ◌*◌, ◌≤◌}
 use Rattle.line.specs.Fault.{line_limit}
 use Rattle.sheet.specs.Said.{Said, outcome}
 use Rattle.sheet.specs.Said.Outcome.{accepted}
