@@ -10,8 +10,9 @@ ghost use Rattle.question.specs.Question.{about_finding};
 ghost use Rattle.answer.specs.own.Asked.{BreakingIf, FindingIf, SidesIf};
 
 use crate::FindingAsked;
+use field::known::Known;
 use finding::Sides;
-use store::{Counts, Layout};
+use store::Layout;
 
 // Whether a field is a number in decimal, without leading zeros.
 fn is_number(f: &[u8], n: usize) -> bool
@@ -23,92 +24,48 @@ fn is_number(f: &[u8], n: usize) -> bool
 }
 
 // The sides of the rule of a number, if its line is the one that the field says and the item a breaks it; or none.
-fn sides_if(
-    sheet: &[u8],
-    names: &[u32],
-    counts: Counts,
-    words: &[u64],
-    at: Layout,
-    k: usize,
-    a: usize,
-    on: bool,
-) -> Sides
-    requires { Judges at.width sheet.now (table_of names.now counts) words.now × Laid at words.now }
-    ensures { BreakingIf at.width on sheet.now (table_of names.now counts) words.now k a result }
+fn sides_if(known: &Known, words: &[u64], at: Layout, k: usize, a: usize, on: bool) -> Option<Sides>
+    requires { Judges at.width known.now.sheet.now (table_of known.now.numbers.now known.now.counts) words.now × Laid at words.now }
+    ensures { BreakingIf at.width on known.now.sheet.now (table_of known.now.numbers.now known.now.counts) words.now k a result }
 {
     if on {
-        return finding::broken(sheet, names, counts, words, at, k, a);
+        return finding::broken(known, words, at, k, a);
     }
-    Sides {
-        named: false,
-        left: 0,
-        right: 0,
-    }
+    None
 }
 
 // The sides of a rule in the line that the field f says, if the item a breaks it.
-fn sides(
-    sheet: &[u8],
-    names: &[u32],
-    counts: Counts,
-    words: &[u64],
-    at: Layout,
-    f: &[u8],
-    a: usize,
-) -> Sides
-    requires { Judges at.width sheet.now (table_of names.now counts) words.now × Laid at words.now }
-    ensures { Of sheet.now (table_of names.now counts) (λ x. SidesIf at.width result.named counts x words.now f.now a result) }
+fn sides(known: &Known, words: &[u64], at: Layout, f: &[u8], a: usize) -> Option<Sides>
+    requires { Judges at.width known.now.sheet.now (table_of known.now.numbers.now known.now.counts) words.now × Laid at words.now }
+    ensures { Of known.now.sheet.now (table_of known.now.numbers.now known.now.counts) (λ x. SidesIf at.width known.now.counts x words.now f.now a result) }
 {
-    let mut q = sheet::pass::first(sheet, names, counts);
+    let mut q = sheet::pass::first(known.sheet, known.numbers, known.counts);
     let mut n = 0;
-    let mut s = sides_if(sheet, names, counts, words, at, 0, a, false);
     while q.found {
-        s = sides_if(sheet, names, counts, words, at, n, a, is_number(f, q.line));
-        if s.named {
-            return s;
+        if let Some(s) = sides_if(known, words, at, n, a, is_number(f, q.line)) {
+            return Some(s);
         }
         n += 1;
-        q = sheet::pass::next(sheet, names, counts, q.past, q.line + 1);
+        q = sheet::pass::next(known.sheet, known.numbers, known.counts, q.past, q.line + 1);
     }
-    s
+    None
 }
 
 // The finding that a question asks for whose first field is `finding`.
-pub fn finding(
-    sheet: &[u8],
-    names: &[u32],
-    counts: Counts,
-    words: &[u64],
-    layout: Layout,
-    q: &[u8],
-) -> FindingAsked
-    requires { Judges layout.width sheet.now (table_of names.now counts) words.now × (about_finding q.now ≡ true) × Laid layout words.now }
-    ensures { Of sheet.now (table_of names.now counts) (λ x. FindingIf layout.width result.found counts x words.now q.now result) }
+pub fn finding(known: &Known, words: &[u64], layout: Layout, q: &[u8]) -> Option<FindingAsked>
+    requires { Judges layout.width known.now.sheet.now (table_of known.now.numbers.now known.now.counts) words.now × (about_finding q.now ≡ true) × Laid layout words.now }
+    ensures { Of known.now.sheet.now (table_of known.now.numbers.now known.now.counts) (λ x. FindingIf layout.width known.now.counts x words.now q.now result) }
 {
     if text::part::count(q, 9) != 3 {
-        return FindingAsked {
-            found: false,
-            item: 0,
-            left: 0,
-            right: 0,
-        };
+        return None;
     }
     let at = reader::line::past(q, 0);
     let name = reader::line::field(q, reader::line::past(q, at));
-    let item = field::names::item(sheet, names, counts, name);
-    let s = sides(
-        sheet,
-        names,
-        counts,
-        words,
-        layout,
-        reader::line::field(q, at),
-        item,
-    );
-    FindingAsked {
-        found: s.named,
+    let item = field::names::item(known.sheet, known.numbers, known.counts, name);
+    let s = sides(known, words, layout, reader::line::field(q, at), item)?;
+    Some(FindingAsked {
         item,
         left: s.left,
         right: s.right,
-    }
+    })
 }

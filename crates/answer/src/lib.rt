@@ -4,10 +4,9 @@
 mod ask;
 pub mod reply;
 
-// The finding that a question asks for, if it asks for one: the item, and the concepts on the sides of its rule.
+// The finding that a question asks for: the item, and the concepts on the sides of its rule.
 #[derive(Clone, Copy)]
 pub struct FindingAsked {
-    pub found: bool,
     pub item: usize,
     pub left: usize,
     pub right: usize,

@@ -4,19 +4,21 @@ ghost use Rattle.store.specs.Cell.{cell_of};
 ghost use Rattle.store.specs.Layout.{large, size, small};
 ghost use Rattle.store.specs.own.Laid.{Laid, widest};
 ghost use Rattle.sheet.specs.Promise.{refused_text};
-ghost use Rattle.field.specs.own.Table.{Tidy, names_of, number_count, table_of};
+ghost use Rattle.field.specs.own.Known.{names_in};
+ghost use Rattle.field.specs.own.Table.{number_count, table_of};
 ghost use Rattle.reason.specs.own.Promise.{Lent};
 ghost use Rattle.why.specs.own.Asked.{Asked, Of};
 ghost use Rattle.why.specs.own.Gather.{Searched};
 ghost use Rattle.answer.specs.Promise.{Fitted, Replies};
 ghost use Rattle.question.specs.Question.{about_finding};
 ghost use Rattle.cited.specs.own.Writing.{Accepted};
-ghost use Rattle.answer.specs.own.Reply.{CellReply, FindingReply, Known, ReasonFits, ReasonSaid};
+ghost use Rattle.answer.specs.own.Reply.{CellReply, FindingReply, ReasonFits, ReasonSaid, Stored};
 
 use cited::Absent;
 use field::Table;
+use field::known::Known;
 use reason::Lines;
-use store::{Concept, Counts, Item, Layout, Statement, Store};
+use store::{Concept, Item, Layout, Statement, Store};
 use why::Paths;
 
 // Writes the line of a refusal, if it has place in the room; gives its length.
@@ -32,99 +34,77 @@ fn refuse(room: &mut [u8], line: usize, why: usize) -> usize
 }
 
 // Writes the text of the statements marked, if it has place in the room; gives its length.
-fn fit(
-    sheet: &[u8],
-    names: &[u32],
-    counts: Counts,
-    marks: &[u64; Lines::WORDS],
-    a: Absent,
-    room: &mut [u8],
-) -> usize
-    requires { Tidy sheet.now (table_of names.now counts) × Accepted sheet.now }
-    ensures { ReasonFits sheet.now (names_of sheet.now (table_of names.now counts)) a marks.now room.old room.new result }
+fn fit(known: &Known, marks: &[u64; Lines::WORDS], absent: Option<Absent>, room: &mut [u8]) -> usize
+    requires { Accepted known.now.sheet.now }
+    ensures { ReasonFits known.now.sheet.now (names_in known.now) absent marks.now room.old room.new result }
 {
     let mut own = [0u8; 1];
-    let n = cited::print::put_reason(sheet, names, counts, marks, a, &mut own);
+    let n = cited::print::put_reason(known, marks, absent, &mut own);
     if room.len() < n {
         return n;
     }
-    cited::print::put_reason(sheet, names, counts, marks, a, room)
+    cited::print::put_reason(known, marks, absent, room)
 }
 
 // Writes the text of a reason for a cell that follows, with what is absent, if it has place in the room; gives its length. The words lent have room for a row of `width` words for each item.
 fn explain(
-    sheet: &[u8],
-    names: &[u32],
-    counts: Counts,
+    known: &Known,
     cell: Statement,
-    a: Absent,
+    absent: Option<Absent>,
     table: &mut [u64],
     width: usize,
     room: &mut [u8],
 ) -> usize
-    requires { Asked sheet.now (table_of names.now counts) (cell_of cell) × Searched width counts table.old }
-    ensures { Of sheet.now (table_of names.now counts) (λ x. ReasonSaid sheet.now x counts (cell_of cell) a room.old room.new result) }
+    requires { Asked known.now.sheet.now (table_of known.now.numbers.now known.now.counts) (cell_of cell) × Searched width known.now.counts table.old }
+    ensures { Of known.now.sheet.now (table_of known.now.numbers.now known.now.counts) (λ x. ReasonSaid known.now.sheet.now x known.now.counts (cell_of cell) absent room.old room.new result) }
 {
     let mut marks = [0u64; Lines::WORDS];
-    why::gather::reasoned(sheet, names, counts, cell, table, width, &mut marks);
-    fit(sheet, names, counts, &marks, a, room)
+    why::gather::reasoned(known, cell, table, width, &mut marks);
+    fit(known, &marks, absent, room)
 }
 
 // Answers a question for a cell.
 fn cell(
-    sheet: &[u8],
-    names: &[u32],
-    counts: Counts,
+    known: &Known,
     words: &[u64],
     at: Layout,
     table: &mut [u64],
     q: &[u8],
     room: &mut [u8],
 ) -> usize
-    requires { Known at.width sheet.now (table_of names.now counts) words.now × Laid at words.now × Searched at.width counts table.old }
-    ensures { CellReply at.width sheet.now q.now room.old room.new result }
+    requires { Stored at.width known.now.sheet.now (table_of known.now.numbers.now known.now.counts) words.now × Laid at words.now × Searched at.width known.now.counts table.old }
+    ensures { CellReply at.width known.now.sheet.now q.now room.old room.new result }
 {
-    let c = question::ask::cell(sheet, names, counts, q);
-    if !c.asked {
+    let Some(s) = question::ask::cell(known, q) else {
         return refuse(room, 0, 24);
-    }
-    let s = c.cell;
-    if !store::look::told(words, at, counts, s) {
-        return refuse(room, 0, 24);
-    }
-    let a = Absent {
-        on: false,
-        item: 0,
-        concept: 0,
     };
-    explain(sheet, names, counts, s, a, table, at.width, room)
+    if !store::look::told(words, at, known.counts, s) {
+        return refuse(room, 0, 24);
+    }
+    explain(known, s, None, table, at.width, room)
 }
 
 // Answers a question for a finding.
 fn finding(
-    sheet: &[u8],
-    names: &[u32],
-    counts: Counts,
+    known: &Known,
     words: &[u64],
     at: Layout,
     table: &mut [u64],
     q: &[u8],
     room: &mut [u8],
 ) -> usize
-    requires { Known at.width sheet.now (table_of names.now counts) words.now × (about_finding q.now ≡ true) × Laid at words.now × Searched at.width counts table.old }
-    ensures { FindingReply at.width sheet.now q.now room.old room.new result }
+    requires { Stored at.width known.now.sheet.now (table_of known.now.numbers.now known.now.counts) words.now × (about_finding q.now ≡ true) × Laid at words.now × Searched at.width known.now.counts table.old }
+    ensures { FindingReply at.width known.now.sheet.now q.now room.old room.new result }
 {
-    let f = crate::ask::finding(sheet, names, counts, words, at, q);
-    if !f.found {
+    let Some(f) = crate::ask::finding(known, words, at, q) else {
         return refuse(room, 0, 25);
-    }
+    };
     let left = Statement::In(Item(f.item), Concept(f.left));
-    let a = Absent {
-        on: true,
+    let absent = Absent {
         item: f.item,
         concept: f.right,
     };
-    explain(sheet, names, counts, left, a, table, at.width, room)
+    explain(known, left, Some(absent), table, at.width, room)
 }
 
 // Answers a question about a sheet, which is read into words that are all 0, a store whose item rows have so many words, with numbers lent for its names and words for the search.
@@ -145,13 +125,16 @@ fn answer(
     if e.why != 0 {
         return refuse(room, e.line, e.why);
     }
-    let kept = e.kept;
-    let counts = kept.counts;
+    let known = Known {
+        sheet,
+        numbers: names,
+        counts: e.kept.counts,
+    };
     let q = question::ask::bare(question);
     if question::ask::about_finding(q) {
-        return finding(sheet, names, counts, words, at, table, q, room);
+        return finding(&known, words, at, table, q, room);
     }
-    cell(sheet, names, counts, words, at, table, q, room)
+    cell(&known, words, at, table, q, room)
 }
 
 // Answers a question about a sheet, which is read with the smaller store: writes the text to the room, if it has place there; gives its length.
@@ -173,6 +156,7 @@ pub fn reply(sheet: &[u8], question: &[u8], room: &mut [u8]) -> usize
 }
 
 // The same with the larger store.
+// Not one generic function with `reply`: it would take the width and three const sizes, with a clause on each, and so be longer than the two.
 pub fn reply_large(sheet: &[u8], question: &[u8], room: &mut [u8]) -> usize
     ensures { Replies large sheet.now question.now room.old room.new result }
 {

@@ -110,7 +110,7 @@ fn findings(
 {
     let mut c = first;
     let mut p = at;
-    for i in 0..n {
+    for _i in 0..n {
         p = finding(known, line, c.finding, room, p);
         c = judge::seek::step(words, c);
     }

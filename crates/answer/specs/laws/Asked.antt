@@ -1,5 +1,5 @@
 -- Laws of a question for a finding. Assumes nothing.
-use Rattle.std.specs.Prelude.{◌≡◌, refl, Bool, true, false, List, [], ◌∷◌, ◌++◌, map, ℕ, suc, ◌+◌, ◌<◌, length, get_or}
+use Rattle.std.specs.Prelude.{◌≡◌, refl, Bool, true, false, Option, Some, None, List, [], ◌∷◌, ◌++◌, map, ℕ, suc, ◌+◌, ◌<◌, length, get_or}
 use Rattle.std.proofs.Common.{sym, ap, ◌∙◌, subst, true≢false, arith, length-append}
 use Rattle.std.proofs.Math.Decide.{dec_lt}
 use Rattle.store.specs.declared.Counts.{Counts}
@@ -67,8 +67,8 @@ name_field q = field_from q (past_field q (past_field q 0))
 
 module _ (W : ℕ) (n : Counts) (x : Said) (s q : List ℕ) where
   -- a line that has not three fields asks for no finding
-  pub finding-short : (r : FindingAsked) → (length (fields q) ≡ 3 → ⊥) → r.found ≡ false → FindingIf W r.found n x s q r
-  finding-short r l e = subst (λ (b : Bool). FindingIf W b n x s q r) (sym e) (λ a c d z. l (ap length z.asks.is))
+  pub finding-short : (length (fields q) ≡ 3 → ⊥) → FindingIf W n x s q None
+  finding-short l = λ a c d z. l (ap length z.asks.is)
 
   -- a line that has asks for the finding of the rule and the item that it names
   module _ (names : Names) (about : about_finding q ≡ true) (l : length (fields q) ≡ 3) (same_names : x.names ≡ names) where
@@ -99,16 +99,15 @@ module _ (W : ℕ) (n : Counts) (x : Said) (s q : List ℕ) where
           broken = subst (λ (i : ℕ). BrokenSub W n x s z.rule i c d) e z.broken;
         }
 
-    pub finding-sides : (t : Sides) (a : ℕ) → a ≡ (item_of names (name_field q)).0 → SidesIf W t.named n x s (line_field q) a t → FindingIf W t.named n x s q (record { found = t.named; item = a; left = t.left; right = t.right })
-    finding-sides t a e z = go t.named z
-      where
-        go : (b : Bool) → SidesIf W b n x s (line_field q) a t → FindingIf W b n x s q (record { found = t.named; item = a; left = t.left; right = t.right })
-        go true w = found-so e w
-        go false w =
-            λ i c d v.
-            let u = second_is v.asks.is in
-            let h : i ≡ (item_of names (name_field q)).0 = v.asks.item ∙ ap (λ (m : Names). (item_of m v.asks.name).0) same_names ∙ ap (λ (l : Field). (item_of names l).0) (sym u.1) in
-            w c d (subst (λ (j : ℕ). BrokenIn W n x s (line_field q) j c d) (sym e) (found-not h v))
+    pub finding-some : (t : Sides) (a : ℕ) → a ≡ (item_of names (name_field q)).0 → SidesIf W n x s (line_field q) a (Some t) → FindingIf W n x s q (Some (record { item = a; left = t.left; right = t.right }))
+    finding-some t a e w = found-so e w
+
+    pub finding-no : (a : ℕ) → a ≡ (item_of names (name_field q)).0 → SidesIf W n x s (line_field q) a None → FindingIf W n x s q None
+    finding-no a e w =
+        λ i c d v.
+        let u = second_is v.asks.is in
+        let h : i ≡ (item_of names (name_field q)).0 = v.asks.item ∙ ap (λ (m : Names). (item_of m v.asks.name).0) same_names ∙ ap (λ (l : Field). (item_of names l).0) (sym u.1) in
+        w c d (subst (λ (j : ℕ). BrokenIn W n x s (line_field q) j c d) (sym e) (found-not h v))
 
 -- ---- the rules of the sheet, one after the other
 
@@ -134,14 +133,13 @@ module _ (W : ℕ) (n : Counts) (x : Said) (s : List ℕ) (f : Field) (a : ℕ) 
       let t = w.broken.there in
       z.none w.rule c d (omega (arith, t.place, ap length t.is, length-append t.before (record { line = t.line; rule = w.broken.rule } ∷ t.after))) w.line w.broken
 
-  module _ {sheet : List ℕ} {t : Table} {m line : ℕ} {on : Bool} {r : Sides} (is : line_of x m ≡ line) (said : on ≡ same f (decimal line)) (U : ℕ) (o : outcome U sheet ≡ accepted x) (e : x.names ≡ names_of sheet t)
-      (counts : n ≡ t.counts) (z : BreakingIf W on sheet t s m a r) where
-    broken-if : on ≡ true → BrokenIf W r.named n x s m a r
-    broken-if h = subst (λ (i : Counts). BrokenIf W r.named i x s m a r) (sym counts) (z.breaking h U x o e)
+  module _ {sheet : List ℕ} {t : Table} {m line : ℕ} {on : Bool} (is : line_of x m ≡ line) (said : on ≡ same f (decimal line)) (U : ℕ) (o : outcome U sheet ≡ accepted x) (e : x.names ≡ names_of sheet t) (counts : n ≡ t.counts) where
+    broken-if : (r : Option Sides) → BreakingIf W on sheet t s m a r → on ≡ true → BrokenIf W n x s m a r
+    broken-if r z h = subst (λ (i : Counts). BrokenIf W i x s m a r) (sym counts) (z.breaking h U x o e)
 
     -- one rule more that is not
-    none_more : r.named ≡ false → NoneYet W n x s f a m → NoneYet W n x s f a (m + 1)
-    none_more h w = record { none = none }
+    none_more : BreakingIf W on sheet t s m a None → NoneYet W n x s f a m → NoneYet W n x s f a (m + 1)
+    none_more z w = record { none = none }
       where
         none : (k c d : ℕ) → k < m + 1 → same f (decimal (line_of x k)) ≡ true → ¬ (BrokenSub W n x s k a c d)
         none k c d l b = by (dec_lt k m)
@@ -151,30 +149,30 @@ module _ (W : ℕ) (n : Counts) (x : Said) (s : List ℕ) (f : Field) (a : ℕ) 
             by (no g) =
                 let i : k ≡ m = omega arith in
                 let y : on ≡ true = said ∙ ap (λ (j : ℕ). same f (decimal j)) (sym is ∙ ap (line_of x) (sym i)) ∙ b in
-                subst (λ (j : ℕ). ¬ (BrokenSub W n x s j a c d)) (sym i) (subst (λ (v : Bool). BrokenIf W v n x s m a r) h (broken-if y) c d)
+                subst (λ (j : ℕ). ¬ (BrokenSub W n x s j a c d)) (sym i) (broken-if None z y c d)
 
     -- a rule that is
-    some-broken : r.named ≡ true → BrokenIn W n x s f a r.left r.right
-    some-broken h = by on refl
+    some-broken : (r : Sides) → BreakingIf W on sheet t s m a (Some r) → BrokenIn W n x s f a r.left r.right
+    some-broken r z = by on refl
       where
         by : (b : Bool) → on ≡ b → BrokenIn W n x s f a r.left r.right
-        by true y = record { rule = m; line = ap (λ (j : ℕ). same f (decimal j)) is ∙ sym said ∙ y; broken = subst (λ (v : Bool). BrokenIf W v n x s m a r) h (broken-if y) }
-        by false y = absurd (true≢false (sym h ∙ z.none y))
+        by true y = record { rule = m; line = ap (λ (j : ℕ). same f (decimal j)) is ∙ sym said ∙ y; broken = broken-if (Some r) z y }
+        by false y = let h = z.none y in absurd (cc)
 
 -- one rule more that is not, in its turn
-pub none-turn : (W U : ℕ) {sheet : List ℕ} {t : Table} {x : Said} {s : List ℕ} {f : Field} {a n : ℕ} {q : RuleLine} {on : Bool} {r : Sides} (w : Turn sheet t x (λ (done : List SheetRule). NoneYet W t.counts x s f a (length done)) q n)
-    → q.found ≡ true → on ≡ same f (decimal q.line) → outcome U sheet ≡ accepted x → x.names ≡ names_of sheet t → BreakingIf W on sheet t s n a r → r.named ≡ false
+pub none-turn : (W U : ℕ) {sheet : List ℕ} {t : Table} {x : Said} {s : List ℕ} {f : Field} {a n : ℕ} {q : RuleLine} {on : Bool} (w : Turn sheet t x (λ (done : List SheetRule). NoneYet W t.counts x s f a (length done)) q n)
+    → q.found ≡ true → on ≡ same f (decimal q.line) → outcome U sheet ≡ accepted x → x.names ≡ names_of sheet t → BreakingIf W on sheet t s n a None
     → NoneYet W t.counts x s f a (length (w.done ++ found_rule q ∷ []))
-none-turn W U {t = t} {x = x} {s = s} {f = f} {a = a} {n = n} {q = q} w found said o e z h =
+none-turn W U {t = t} {x = x} {s = s} {f = f} {a = a} {n = n} {q = q} w found said o e z =
     let y = turn-rules w found in
     let l : n + 1 ≡ length (w.done ++ found_rule q ∷ []) = omega (arith, w.number, length-append w.done (found_rule q ∷ [])) in
     subst (λ (k : ℕ). NoneYet W t.counts x s f a k) l
-    (none_more W t.counts x s f a (rule-line x w.done y.0 (found_rule q) n y.1 w.number) said U o e refl z h (subst (λ (k : ℕ). NoneYet W t.counts x s f a k) (sym w.number) w.holds))
+    (none_more W t.counts x s f a (rule-line x w.done y.0 (found_rule q) n y.1 w.number) said U o e refl z (subst (λ (k : ℕ). NoneYet W t.counts x s f a k) (sym w.number) w.holds))
 
 -- a rule that is, in its turn
-pub some_turn : (W U : ℕ) {sheet : List ℕ} {t : Table} {x : Said} {s : List ℕ} {f : Field} {a n : ℕ} {q : RuleLine} {on : Bool} {r : Sides} (w : Turn sheet t x (λ (done : List SheetRule). NoneYet W t.counts x s f a (length done)) q n)
-    → q.found ≡ true → on ≡ same f (decimal q.line) → outcome U sheet ≡ accepted x → x.names ≡ names_of sheet t → BreakingIf W on sheet t s n a r → r.named ≡ true
+pub some_turn : (W U : ℕ) {sheet : List ℕ} {t : Table} {x : Said} {s : List ℕ} {f : Field} {a n : ℕ} {q : RuleLine} {on : Bool} (r : Sides) (w : Turn sheet t x (λ (done : List SheetRule). NoneYet W t.counts x s f a (length done)) q n)
+    → q.found ≡ true → on ≡ same f (decimal q.line) → outcome U sheet ≡ accepted x → x.names ≡ names_of sheet t → BreakingIf W on sheet t s n a (Some r)
     → BrokenIn W t.counts x s f a r.left r.right
-some_turn W U {t = t} {x = x} {s = s} {f = f} {a = a} {n = n} {q = q} w found said o e z h =
+some_turn W U {t = t} {x = x} {s = s} {f = f} {a = a} {n = n} {q = q} r w found said o e z =
     let y = turn-rules w found in
-    some-broken W t.counts x s f a (rule-line x w.done y.0 (found_rule q) n y.1 w.number) said U o e refl z h
+    some-broken W t.counts x s f a (rule-line x w.done y.0 (found_rule q) n y.1 w.number) said U o e refl r z

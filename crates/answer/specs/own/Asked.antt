@@ -1,5 +1,5 @@
 -- The finding that a question asks for.
-use Rattle.std.specs.Prelude.{◌≡◌, Bool, true, false, List, ℕ}
+use Rattle.std.specs.Prelude.{◌≡◌, Bool, true, false, Option, Some, None, List, ℕ}
 use Rattle.text.specs.Bytes.{same}
 use Rattle.text.specs.Text.{decimal}
 use Rattle.store.specs.declared.Counts.{Counts}
@@ -19,14 +19,14 @@ pub record BrokenIn (W : ℕ) (n : Counts) (x : Said) (s : List ℕ) (f : Field)
   pub broken : BrokenSub W n x s rule a c d
 
 -- the sides of the rule k, if `on` and if the item a breaks it
-pub record BreakingIf (W : ℕ) (on : Bool) (sheet : List ℕ) (t : Table) (s : List ℕ) (k a : ℕ) (r : Sides) : Type 0 where
+pub record BreakingIf (W : ℕ) (on : Bool) (sheet : List ℕ) (t : Table) (s : List ℕ) (k a : ℕ) (r : Option Sides) : Type 0 where
   pub breaking : on ≡ true → Breaking W sheet t s k a r
-  pub none : on ≡ false → r.named ≡ false
+  pub none : on ≡ false → r ≡ None
 
 -- the sides of such a rule, or there is none
-abbrev pub SidesIf : ℕ → Bool → Counts → Said → List ℕ → Field → ℕ → Sides → Type 0
-SidesIf W true n x s f a r = BrokenIn W n x s f a r.left r.right
-SidesIf W false n x s f a r = (c d : ℕ) → ¬ (BrokenIn W n x s f a c d)
+abbrev pub SidesIf : ℕ → Counts → Said → List ℕ → Field → ℕ → Option Sides → Type 0
+SidesIf W n x s f a (Some r) = BrokenIn W n x s f a r.left r.right
+SidesIf W n x s f a None = (c d : ℕ) → ¬ (BrokenIn W n x s f a c d)
 
 -- the question q is the line of a finding of such a rule
 pub record FindingIn (W : ℕ) (n : Counts) (x : Said) (s q : List ℕ) (a c d : ℕ) : Type 0 where
@@ -35,6 +35,6 @@ pub record FindingIn (W : ℕ) (n : Counts) (x : Said) (s q : List ℕ) (a c d :
   pub broken : BrokenSub W n x s rule a c d
 
 -- the finding that a question asks for, or it asks for none
-abbrev pub FindingIf : ℕ → Bool → Counts → Said → List ℕ → List ℕ → FindingAsked → Type 0
-FindingIf W true n x s q r = FindingIn W n x s q r.item r.left r.right
-FindingIf W false n x s q r = (a c d : ℕ) → ¬ (FindingIn W n x s q a c d)
+abbrev pub FindingIf : ℕ → Counts → Said → List ℕ → List ℕ → Option FindingAsked → Type 0
+FindingIf W n x s q (Some r) = FindingIn W n x s q r.item r.left r.right
+FindingIf W n x s q None = (a c d : ℕ) → ¬ (FindingIn W n x s q a c d)

@@ -12,4 +12,4 @@ loop-i-preserved c = let w = c.loop-i in
     (f.auto.room ∙ w.invariant.0, omega (arith, f.ensures.1, w.invariant.1), λ l. c.step-c.ensures.ready, reached-more w.invariant.3 c.step-c.ensures f.ensures.0)
 
 pub returns : goal.returns
-returns c = let e : c.loop-i.i ≡ c.args.n = omega arith in (reached-all (rw e at c.loop-i.invariant.3), rw e at c.loop-i.invariant.1)
+returns c = let e : c.loop-i._i ≡ c.args.n = omega arith in (reached-all (rw e at c.loop-i.invariant.3), rw e at c.loop-i.invariant.1)

@@ -6,4 +6,4 @@ use Rattle.printed.specs.laws.Written.{Reached}
 use Rattle.printed.proofs.findings.Given as goal
 
 abbrev pub invariant-loop-i : goal.invariant-loop-i
-invariant-loop-i l = (length l.room ≡ length l.initial.room) × (l.p ≤ l.at + 93 * l.i) × (l.i < l.n → Ready l.words l.c) × Reached l.words l.initial.c l.i (names_in l.known) l.line l.initial.room l.at l.c l.room l.p
+invariant-loop-i l = (length l.room ≡ length l.initial.room) × (l.p ≤ l.at + 93 * l._i) × (l._i < l.n → Ready l.words l.c) × Reached l.words l.initial.c l._i (names_in l.known) l.line l.initial.room l.at l.c l.room l.p

@@ -1,7 +1,5 @@
 -- `answer::ask::is_number` meets its contract. Assumes nothing.
-use native.Mathlib.Omega.{arith}
-use mathlib.Core.Path.{ap}
-use lib.ListN.{length}
+use Rattle.std.proofs.Common.{arith, ap, length}
 use Rattle.text.specs.laws.Text.{wrote-text}
 use Rattle.answer.proofs.ask.is_number.Goals as goal
 

@@ -1,10 +1,6 @@
 -- `answer::ask::sides_if` meets its contract. Assumes nothing.
-use mathlib.Core.Path.{refl, sym, ◌∙◌}
-use mathlib.Core.Bool.{true≢false}
+use Rattle.std.proofs.Common.{refl, sym, true≢false, ◌∙◌}
 use Rattle.answer.proofs.ask.sides_if.Goals as goal
-
-pub broken-requires : goal.broken-requires
-broken-requires c = c.requires
 
 pub returns-then-on : goal.returns-then-on
 returns-then-on c = record { breaking = λ e. c.broken.ensures; none = λ e. absurd (true≢false (sym c.if-on.true ∙ e)) }

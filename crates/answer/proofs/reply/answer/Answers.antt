@@ -1,7 +1,6 @@
 -- `answer::reply::answer` meets its contract. Assumes nothing.
-use mathlib.Core.Path.{sym, ap, ◌∙◌}
-use Prim.Native.Nat.{ℕ}
-use lib.ListN.{length, length-replicate}
+use Rattle.std.proofs.Common.{ap, length, sym, ℕ, ◌∙◌}
+use Rattle.std.proofs.lemmas.List.{length-replicate}
 use Rattle.store.specs.Layout.{size}
 use Rattle.store.specs.laws.Laid.{laid_of}
 use Rattle.why.specs.laws.Gather.{searched-by}
@@ -20,14 +19,14 @@ returns-then-e-ne0 c = reply-refused (rw c.layout-at.ensures at c.fill_blank-e.e
 
 pub finding-requires : goal.finding-requires
 finding-requires c = let k = known-opens c.fill_blank-e.ensures c.if-e-ne0.false in
-    (k, sym c.about_finding.ensures ∙ c.if-about_finding.true, laid_of c.layout-at.ensures (rw c.layout-at.ensures at k.held.store.long) c.requires.2, searched-by c.layout-at.ensures c.requires.3 (known-judges k).store.fits c.requires.4)
+    (k, sym c.about_finding.ensures ∙ c.if-about_finding.true, laid_of c.layout-at.ensures (rw c.layout-at.ensures at k.held.store.long) c.requires.2, searched-by c.layout-at.ensures c.requires.3 (known-judges k c.fill_blank-e.ensures.tidy).store.fits c.requires.4)
 
 pub returns-then-about_finding : goal.returns-then-about_finding
 returns-then-about_finding c = rw c.layout-at.ensures at (c.finding.ensures.reply _ (sym c.bare-q.ensures))
 
 pub cell-requires : goal.cell-requires
 cell-requires c = let k = known-opens c.fill_blank-e.ensures c.if-e-ne0.false in
-    (k, laid_of c.layout-at.ensures (rw c.layout-at.ensures at k.held.store.long) c.requires.2, searched-by c.layout-at.ensures c.requires.3 (known-judges k).store.fits c.requires.4)
+    (k, laid_of c.layout-at.ensures (rw c.layout-at.ensures at k.held.store.long) c.requires.2, searched-by c.layout-at.ensures c.requires.3 (known-judges k c.fill_blank-e.ensures.tidy).store.fits c.requires.4)
 
 pub returns : goal.returns
 returns c = rw c.layout-at.ensures at (c.cell.ensures.reply _ (sym c.bare-q.ensures) (sym c.about_finding.ensures ∙ c.if-about_finding.false))

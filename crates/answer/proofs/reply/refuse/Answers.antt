@@ -1,5 +1,5 @@
 -- `answer::reply::refuse` meets its contract. Assumes nothing.
-use native.Mathlib.Omega.{arith}
+use Rattle.std.proofs.Common.{arith}
 use Rattle.answer.specs.laws.Reply.{fitted-not, fitted-whole}
 use Rattle.answer.proofs.reply.refuse.Goals as goal
 

@@ -1,6 +1,5 @@
 -- `answer::reply::reply` meets its contract. Assumes nothing.
-use mathlib.Core.Path.{refl}
-use native.Mathlib.Omega.{arith}
+use Rattle.std.proofs.Common.{arith, refl}
 use Rattle.store.specs.Layout.{small}
 use Rattle.why.specs.laws.Gather.{lent-blank}
 use Rattle.answer.proofs.reply.reply.Goals as goal
