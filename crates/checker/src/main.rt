@@ -21,11 +21,9 @@ fn main(rt: HostRuntime) {
     let mut sheet = [0u8; 32769];
     let mut input = rt.stdin();
     let n = intake::read_full(&mut input, &mut sheet);
-    if n < 32769 {
-        if !intake::ended(&mut input) {
-            let _ = rt.eprint("checker: the sheet could not be read to its end\n");
-            return;
-        }
+    if n < sheet.len() && !intake::ended(&mut input) {
+        let _ = rt.eprint("checker: the sheet could not be read to its end\n");
+        return;
     }
     print(&rt, &sheet, n);
 }

@@ -3,7 +3,7 @@
 // more are declared than the sheet does, then its words.
 #![tactic(auto)]
 
-ghost use Rattle.std.specs.Prelude.{◌≡◌, ◌≤◌, length};
+ghost use Rattle.std.specs.Prelude.{◌≤◌};
 
 use judge::RuleRefusal;
 use rule::{Finding, Rule};
@@ -26,6 +26,15 @@ const HEAD: usize = 1 + RULES * RULE_BYTES;
 
 // One byte more than there can be, so that a longer sheet is known.
 const INPUT: usize = HEAD + 32769;
+
+// The words of the stores that are lent: of the smaller and the larger, whole and without the last word.
+const SMALL: usize = Store::WORDS;
+
+const SMALL_SHORT: usize = Store::WORDS - 1;
+
+const LARGE: usize = Store::LARGE_WORDS;
+
+const LARGE_SHORT: usize = Store::LARGE_WORDS - 1;
 
 // What the words of a store are before.
 const GARBAGE: u64 = 0x5555_5555_5555_5555;
@@ -105,10 +114,8 @@ fn record(rt: &impl Print, f: Finding) -> io::Result<()> {
 
 // Prints a list of records.
 fn records(rt: &impl Print, list: [Finding; ROOM]) -> io::Result<()> {
-    let mut i = 0;
-    while i < ROOM {
-        record(rt, list[i])?;
-        i += 1;
+    for f in list {
+        record(rt, f)?;
     }
     Ok(())
 }
@@ -161,35 +168,28 @@ fn print_total(rt: &impl Print, asked: &[u8], answer: Result<u64, RuleRefusal>) 
 
 // The byte at a place, 0 past the end.
 fn byte_at(given: &[u8], i: usize) -> u8 {
-    if i < given.len() {
-        return given[i];
-    }
-    0
+    given.get(i).copied().unwrap_or(0)
 }
 
-// The words of a rule. The `ensures` gives only the length, which lending the array needs.
-fn words_of(given: &[u8]) -> [u64; Spelled::RULE]
-    ensures { 173 ≡ length result }
-{
+// The words of a rule.
+fn words_of(given: &[u8]) -> [u64; Spelled::RULE] {
     let mut words = [0u64; Spelled::RULE];
-    let mut i = 0;
-    while i < Spelled::RULE {
+    for i in 0..Spelled::RULE {
         words[i] = byte_at(given, 1 + i) as u64;
-        i += 1;
     }
     words
 }
 
 // The declared counts with so many items more.
 fn with_more(declared: Counts, n: u8) -> Counts {
-    let mut items = declared.items;
-    if items <= Store::LARGE_ITEMS {
-        items += n as usize;
-    }
+    let more = if declared.items <= Store::LARGE_ITEMS {
+        n as usize
+    } else {
+        0
+    };
     Counts {
-        items,
-        concepts: declared.concepts,
-        roles: declared.roles,
+        items: declared.items + more,
+        ..declared
     }
 }
 
@@ -206,34 +206,23 @@ fn judge_rule(
     let counts = with_more(declared, byte_at(given, 0));
     print_total(rt, b"count", judge::count(words, counts, rule))?;
     let found = find_list(words, counts, k, rule, marked());
-    let answer = found.answer;
-    let list = found.list;
-    print_total(rt, b"list", answer)?;
-    records(rt, list)
+    print_total(rt, b"list", found.answer)?;
+    records(rt, found.list)
 }
 
 // Prints what is counted and listed of each of the rules.
 fn judge_rules(rt: &impl Print, input: &[u8], words: &[u64], counts: Counts) -> io::Result<()> {
-    let mut k = 0;
-    while k < RULES {
-        judge_rule(
-            rt,
-            text::part::part(input, 1 + k * RULE_BYTES, RULE_BYTES),
-            k,
-            words,
-            counts,
-        )?;
-        k += 1;
+    for k in 0..RULES {
+        let given = text::part::part(input, 1 + k * RULE_BYTES, RULE_BYTES);
+        judge_rule(rt, given, k, words, counts)?;
     }
     Ok(())
 }
 
 // Prints what reading a sheet gave.
 fn print_listed(rt: &impl Print, listed: Listed) -> io::Result<()> {
-    let answer = listed.answer;
-    let list = listed.list;
-    print_reading(rt, answer)?;
-    records(rt, list)
+    print_reading(rt, listed.answer)?;
+    records(rt, listed.list)
 }
 
 // Prints what reading the sheet into the lent store gives, and of an accepted one what its store gives for the rules.
@@ -248,43 +237,22 @@ fn print_in(rt: &impl Print, input: &[u8], words: &mut [u64]) -> io::Result<()> 
     }
 }
 
-// Prints it with the smaller store.
-fn print_small(rt: &impl Print, input: &[u8]) -> io::Result<()> {
-    let mut words = [GARBAGE; Store::WORDS];
-    print_in(rt, input, &mut words)
-}
-
-// Prints it with the smaller store without its last word.
-fn print_small_short(rt: &impl Print, input: &[u8]) -> io::Result<()> {
-    let mut words = [GARBAGE; Store::WORDS - 1];
-    print_in(rt, input, &mut words)
-}
-
-// Prints it with the larger store.
-fn print_large(rt: &impl Print, input: &[u8]) -> io::Result<()> {
-    let mut words = [GARBAGE; Store::LARGE_WORDS];
-    print_in(rt, input, &mut words)
-}
-
-// Prints it with the larger store without its last word.
-fn print_large_short(rt: &impl Print, input: &[u8]) -> io::Result<()> {
-    let mut words = [GARBAGE; Store::LARGE_WORDS - 1];
+// Prints it with a store of N words.
+fn print_with<const N: usize, P: Print>(rt: &P, input: &[u8]) -> io::Result<()>
+    requires { N ≤ 100000 }
+{
+    let mut words = [GARBAGE; N];
     print_in(rt, input, &mut words)
 }
 
 // Prints what is asked for.
 fn print_all(rt: &impl Print, input: &[u8]) -> io::Result<()> {
-    let store = byte_at(input, 0);
-    if store == 0 {
-        return print_small(rt, input);
+    match byte_at(input, 0) {
+        0 => print_with::<SMALL, _>(rt, input),
+        1 => print_with::<SMALL_SHORT, _>(rt, input),
+        2 => print_with::<LARGE, _>(rt, input),
+        _ => print_with::<LARGE_SHORT, _>(rt, input),
     }
-    if store == 1 {
-        return print_small_short(rt, input);
-    }
-    if store == 2 {
-        return print_large(rt, input);
-    }
-    print_large_short(rt, input)
 }
 
 // Reads the input, and prints.

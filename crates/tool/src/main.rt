@@ -23,35 +23,25 @@ fn say(rt: &(impl Print + Eprint), text: &[u8]) {
     }
 }
 
-// Whether a text begins with a byte.
-fn begins(text: &[u8], b: u8) -> bool {
-    if 0 < text.len() {
-        return text[0] == b;
-    }
-    false
-}
-
 // Writes the first n bytes of the room, unless they are the line of a refusal and that is not wanted.
 fn say_unless(rt: &(impl Print + Eprint), room: &[u8], n: usize, refusals: bool) {
     if room.len() < n {
         complain(rt, "tool: the reason is too long to be printed\n");
         return;
     }
-    let text = text::part::part(room, 0, n);
-    if begins(text, b'r') {
-        if !refusals {
-            return;
-        }
+    let text = &room[..n];
+    if refusals || text.first() != Some(&b'r') {
+        say(rt, text);
     }
-    say(rt, text);
 }
 
 // Writes the answer to a question about a sheet into the room, with the store that its edition needs; gives its length.
 fn write_answer(sheet: &[u8], question: &[u8], room: &mut [u8]) -> usize {
     if sheet::edition::wide(sheet) {
-        return answer::reply::reply_large(sheet, question, room);
+        answer::reply::reply_large(sheet, question, room)
+    } else {
+        answer::reply::reply(sheet, question, room)
     }
-    answer::reply::reply(sheet, question, room)
 }
 
 // Prints the answer to a question about a sheet; the line of a refusal only if it is wanted.
@@ -64,18 +54,15 @@ fn print_answer(rt: &(impl Print + Eprint), sheet: &[u8], question: &[u8], refus
 // Prints a line of a sheet's text, and below it, if it is that of a finding, its reason.
 fn print_line(rt: &(impl Print + Eprint), sheet: &[u8], line: &[u8]) {
     say(rt, line);
-    if begins(line, b'f') {
+    if line.first() == Some(&b'f') {
         print_answer(rt, sheet, line, false);
     }
 }
 
 // Prints the lines of a sheet's text, and below those of findings their reasons.
 fn print_lines(rt: &(impl Print + Eprint), sheet: &[u8], lines: &[u8]) {
-    let mut at = 0;
-    while at < lines.len() {
-        let end = text::part::end_of(lines, at, 10);
-        print_line(rt, sheet, text::part::part(lines, at, end + 1 - at));
-        at = end + 1;
+    for line in lines.split_inclusive(|b| *b == b'\n') {
+        print_line(rt, sheet, line);
     }
 }
 
@@ -88,9 +75,10 @@ fn write_large(sheet: &[u8], room: &mut [u8]) -> usize {
 // Writes the text of a sheet into the room, with the store that its edition needs; gives its length.
 fn write_text(sheet: &[u8], room: &mut [u8]) -> usize {
     if sheet::edition::wide(sheet) {
-        return write_large(sheet, room);
+        write_large(sheet, room)
+    } else {
+        report::page::page(sheet, room)
     }
-    report::page::page(sheet, room)
 }
 
 // Prints the findings of a sheet and their total; each with its reason below it where it has one, if `reasons`.
@@ -100,9 +88,9 @@ fn print_all(rt: &(impl Print + Eprint), sheet: &[u8], reasons: bool) {
     let text = text::part::part(&room, 0, n);
     if reasons {
         print_lines(rt, sheet, text);
-        return;
+    } else {
+        say(rt, text);
     }
-    say(rt, text);
 }
 
 // Answers the question that the program was started with, or all questions if there is none. One that is cut at 1,024 bytes is still answered rightly: no statement and no finding has so many.
@@ -119,26 +107,21 @@ fn answer_all(rt: &(impl Env + Print + Eprint), sheet: &[u8]) {
 fn read_sheet(rt: &(impl Env + Print + Eprint), input: &mut impl Read, check: bool) {
     let mut sheet = [0u8; 32769];
     let n = intake::read_full(input, &mut sheet);
-    if n < 32769 {
-        if !intake::ended(input) {
-            complain(rt, "tool: the sheet could not be read to its end\n");
-            return;
-        }
+    if n < sheet.len() && !intake::ended(input) {
+        complain(rt, "tool: the sheet could not be read to its end\n");
+        return;
     }
     if check {
         print_all(rt, &sheet[..n], false);
-        return;
+    } else {
+        answer_all(rt, &sheet[..n]);
     }
-    answer_all(rt, &sheet[..n]);
 }
 
 // Whether the program was started with a verb.
 fn asked(rt: &impl Env, known: &[u8]) -> bool {
     let mut verb = [0u8; 8];
-    match rt.arg(1, &mut verb) {
-        Ok(n) => text::part::same(&verb[..n], known),
-        Err(_) => false,
-    }
+    matches!(rt.arg(1, &mut verb), Ok(n) if &verb[..n] == known)
 }
 
 // Says on standard error why a file could not be opened, in std's words without the number behind them.
@@ -155,11 +138,9 @@ fn fail(rt: &impl Eprint, name: &str, error: io::Error) {
 // Does what the verb says with the sheet in a file.
 fn serve(rt: &(impl Env + Files + Print + Eprint), path: &[u8]) {
     let check = asked(rt, b"check");
-    if !check {
-        if !asked(rt, b"why") {
-            complain(rt, "tool: the verb is not known: there are check and why\n");
-            return;
-        }
+    if !check && !asked(rt, b"why") {
+        complain(rt, "tool: the verb is not known: there are check and why\n");
+        return;
     }
     let Ok(name) = std::str::from_utf8(path) else {
         let _ = eprintln!(rt; "{}: the name is not UTF-8", path.escape_ascii());
