@@ -39,14 +39,14 @@ fn sides(known: &Known, words: &[u64], at: Layout, f: &[u8], a: usize) -> Option
     requires { Judges at.width known.now.sheet.now (table_of known.now.numbers.now known.now.counts) words.now × Laid at words.now }
     ensures { Of known.now.sheet.now (table_of known.now.numbers.now known.now.counts) (λ x. SidesIf at.width known.now.counts x words.now f.now a result) }
 {
-    let mut q = sheet::pass::first(known.sheet, known.numbers, known.counts);
+    let mut next = sheet::pass::first(known);
     let mut n = 0;
-    while q.found {
+    while let Some(q) = next {
         if let Some(s) = sides_if(known, words, at, n, a, is_number(f, q.line)) {
             return Some(s);
         }
         n += 1;
-        q = sheet::pass::next(known.sheet, known.numbers, known.counts, q.past, q.line + 1);
+        next = sheet::pass::next(known, q.past, q.line + 1);
     }
     None
 }
@@ -61,7 +61,7 @@ pub fn finding(known: &Known, words: &[u64], layout: Layout, q: &[u8]) -> Option
     }
     let at = reader::line::past(q, 0);
     let name = reader::line::field(q, reader::line::past(q, at));
-    let item = field::names::item(known.sheet, known.numbers, known.counts, name);
+    let item = known.item(name);
     let s = sides(known, words, layout, reader::line::field(q, at), item)?;
     Some(FindingAsked {
         item,

@@ -18,6 +18,7 @@ use cited::Absent;
 use field::Table;
 use field::known::Known;
 use reason::Lines;
+use store::view::View;
 use store::{Concept, Item, Layout, Statement, Store};
 use why::Paths;
 
@@ -78,7 +79,12 @@ fn cell(
     let Some(s) = question::ask::cell(known, q) else {
         return refuse(room, 0, 24);
     };
-    if !store::look::told(words, at, known.counts, s) {
+    let view = View {
+        words,
+        at,
+        counts: known.counts,
+    };
+    if !view.told(s) {
         return refuse(room, 0, 24);
     }
     explain(known, s, None, table, at.width, room)

@@ -160,19 +160,19 @@ module _ (W : ℕ) (n : Counts) (x : Said) (s : List ℕ) (f : Field) (a : ℕ) 
         by false y = let h = z.none y in absurd (cc)
 
 -- one rule more that is not, in its turn
-pub none-turn : (W U : ℕ) {sheet : List ℕ} {t : Table} {x : Said} {s : List ℕ} {f : Field} {a n : ℕ} {q : RuleLine} {on : Bool} (w : Turn sheet t x (λ (done : List SheetRule). NoneYet W t.counts x s f a (length done)) q n)
-    → q.found ≡ true → on ≡ same f (decimal q.line) → outcome U sheet ≡ accepted x → x.names ≡ names_of sheet t → BreakingIf W on sheet t s n a None
+pub none-turn : (W U : ℕ) {sheet : List ℕ} {t : Table} {x : Said} {s : List ℕ} {f : Field} {a n : ℕ} {p : Option RuleLine} {q : RuleLine} {on : Bool} (w : Turn sheet t x (λ (done : List SheetRule). NoneYet W t.counts x s f a (length done)) p n)
+    → p ≡ Some q → on ≡ same f (decimal q.line) → outcome U sheet ≡ accepted x → x.names ≡ names_of sheet t → BreakingIf W on sheet t s n a None
     → NoneYet W t.counts x s f a (length (w.done ++ found_rule q ∷ []))
 none-turn W U {t = t} {x = x} {s = s} {f = f} {a = a} {n = n} {q = q} w found said o e z =
-    let y = turn-rules w found in
+    let y = turn-rules w q found in
     let l : n + 1 ≡ length (w.done ++ found_rule q ∷ []) = omega (arith, w.number, length-append w.done (found_rule q ∷ [])) in
     subst (λ (k : ℕ). NoneYet W t.counts x s f a k) l
     (none_more W t.counts x s f a (rule-line x w.done y.0 (found_rule q) n y.1 w.number) said U o e refl z (subst (λ (k : ℕ). NoneYet W t.counts x s f a k) (sym w.number) w.holds))
 
 -- a rule that is, in its turn
-pub some_turn : (W U : ℕ) {sheet : List ℕ} {t : Table} {x : Said} {s : List ℕ} {f : Field} {a n : ℕ} {q : RuleLine} {on : Bool} (r : Sides) (w : Turn sheet t x (λ (done : List SheetRule). NoneYet W t.counts x s f a (length done)) q n)
-    → q.found ≡ true → on ≡ same f (decimal q.line) → outcome U sheet ≡ accepted x → x.names ≡ names_of sheet t → BreakingIf W on sheet t s n a (Some r)
+pub some_turn : (W U : ℕ) {sheet : List ℕ} {t : Table} {x : Said} {s : List ℕ} {f : Field} {a n : ℕ} {p : Option RuleLine} {q : RuleLine} {on : Bool} (r : Sides) (w : Turn sheet t x (λ (done : List SheetRule). NoneYet W t.counts x s f a (length done)) p n)
+    → p ≡ Some q → on ≡ same f (decimal q.line) → outcome U sheet ≡ accepted x → x.names ≡ names_of sheet t → BreakingIf W on sheet t s n a (Some r)
     → BrokenIn W t.counts x s f a r.left r.right
 some_turn W U {t = t} {x = x} {s = s} {f = f} {a = a} {n = n} {q = q} r w found said o e z =
-    let y = turn-rules w found in
+    let y = turn-rules w q found in
     some-broken W t.counts x s f a (rule-line x w.done y.0 (found_rule q) n y.1 w.number) said U o e refl r z
