@@ -1,4 +1,4 @@
-ghost use Rattle.std.specs.Prelude.{◌≡◌, ◌&&◌, ◌||◌, ◌^◌, ◌≤◌, ◌<◌, length};
+ghost use Rattle.std.specs.Prelude.{◌≡◌, ◌^◌, ◌≤◌, ◌<◌, length};
 ghost use Rattle.row.specs.own.Change.{grown, or_if};
 ghost use Rattle.row.specs.own.Bit.{hasb, low_bits};
 ghost use Rattle.row.specs.Bit.{total};
@@ -35,20 +35,6 @@ pub fn or_if(on: bool, v: u64, w: u64) -> u64
     ensures { result ≡ or_if on v w }
 {
     if on { w | v } else { w }
-}
-
-// Both.
-pub fn both(a: bool, b: bool) -> bool
-    ensures { result ≡ (a && b) }
-{
-    a && b
-}
-
-// Either.
-pub fn either(a: bool, b: bool) -> bool
-    ensures { result ≡ (a || b) }
-{
-    a || b
 }
 
 // w with the bits of m, if bit k of w is set.

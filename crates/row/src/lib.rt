@@ -3,7 +3,6 @@
 
 pub mod bit;
 pub mod copy;
-pub mod number;
 pub mod pick;
 
 // How many words a row has that stands alone.

@@ -5,13 +5,12 @@ ghost use Rattle.row.specs.own.Row.{RowHas};
 ghost use Rattle.row.specs.own.Pick.{Marks, room};
 ghost use Rattle.store.specs.Cell.{cell_of, DeclaredConcept, DeclaredItem, DeclaredRole};
 ghost use Rattle.store.specs.Cell.Cell.{Same, Under, RoleUnder, In, Link};
-ghost use Rattle.store.specs.Layout.{ClosedStore, Holds, item_limit, link_at};
-ghost use Rattle.store.specs.own.Laid.{Laid};
+ghost use Rattle.store.specs.Layout.{item_limit, link_at};
 ghost use Rattle.store.specs.own.Look.{LinksJoined, LinksMeet, LinkWord, SameDropped};
 ghost use Rattle.store.specs.own.View.{held};
 
 use crate::view::View;
-use crate::{Concept, Counts, Item, Layout, Role, Statement};
+use crate::{Concept, Item, Role, Statement};
 use row::Row;
 
 impl<'a> View<'a> {
@@ -175,12 +174,4 @@ impl<'a> View<'a> {
     {
         row::pick::common(self.words, self.link_row(r, a), self.at.width, p)
     }
-}
-
-// Whether the store says already what the statement does, where its parts are given one by one.
-pub fn told(words: &[u64], at: Layout, counts: Counts, s: Statement) -> bool
-    requires { Laid at words.now × ClosedStore at.width counts words.now }
-    ensures { Decides result (Holds at.width counts words.now (cell_of s)) }
-{
-    View { words, at, counts }.told(s)
 }
