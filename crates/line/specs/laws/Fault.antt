@@ -1,7 +1,6 @@
 -- Laws of what is wrong with a line. Assumes nothing.
 use Rattle.std.specs.Prelude.{◌≡◌, refl, Bool, true, false, not, List, [], ◌∷◌, ℕ, ◌-◌, ◌≤◌, ◌<◌, ltb, length, drop}
-use Rattle.std.proofs.Common.{sym, ap, ◌∙◌, true≢false, arith, length-drop}
-use borrow.Author.Tests.{lt-ltb, le-ltb}
+use Rattle.std.proofs.Common.{sym, ap, ◌∙◌, true≢false, arith, length-drop, lt-ltb, le-ltb}
 use Rattle.text.specs.Bytes.{every}
 use Rattle.text.specs.Name.{line_byte}
 use Rattle.text.specs.Split.{fields}

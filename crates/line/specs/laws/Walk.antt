@@ -2,8 +2,7 @@
 use Rattle.std.specs.Prelude.{Option, None}
 use Rattle.std.specs.Prelude.{◌≡◌, refl, Bool, true, false, cond, ℕ, zero, suc, ◌+◌, get_or}
 use Rattle.std.proofs.Math.Path.{sym}
-use Rattle.std.proofs.Common.{ap, ◌∙◌, true≢false, arith}
-use mathlib.Core.List.{List, [], ◌∷◌}
+use Rattle.std.proofs.Common.{ap, ◌∙◌, true≢false, arith, List, [], ◌∷◌}
 use Rattle.field.specs.declared.Due.{Due}
 use Rattle.field.specs.declared.Due.TheVariants as due
 use Rattle.field.specs.declared.Operator.{Operator}
