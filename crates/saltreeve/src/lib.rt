@@ -1,4 +1,5 @@
 // What other languages call: the entry points under their C names, and nothing else.
+// Items, concepts, roles and kinds come as plain numbers, and answers go out as such: this is the C interface.
 #![tactic(auto)]
 
 ghost use Rattle.std.specs.Prelude.{not, eqb};

@@ -1,7 +1,6 @@
 -- `saltreeve::checks::check_in_aside` meets its contract. Assumes nothing.
-use native.Mathlib.Omega.{arith}
-use mir.Syntax.{w64}
-use mir.ValLaws.{to_z-of_z}
+use Rattle.std.proofs.Common.{arith, w64}
+use Rattle.std.proofs.lemmas.Int.{to_z-of_z}
 use Rattle.report.specs.laws.Short.{pages-in-short, text-most}
 use Rattle.saltreeve.specs.laws.Check.{check-in-by}
 use Rattle.saltreeve.proofs.checks.check_in_aside.Goals as goal

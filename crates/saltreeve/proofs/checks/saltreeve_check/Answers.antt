@@ -1,10 +1,8 @@
 -- `saltreeve::checks::saltreeve_check` meets its contract. Assumes nothing.
-use mir.Syntax.{w64}
-use mir.ValLaws.{to_z-of_z}
-use lib.IntN.{pos}
+use Rattle.std.proofs.Common.{w64, pos, arith}
+use Rattle.std.proofs.lemmas.Int.{to_z-of_z}
 use Rattle.report.specs.laws.Short.{pages-short}
 use Rattle.saltreeve.specs.laws.Check.{check-in-place}
-use native.Mathlib.Omega.{arith}
 use Rattle.saltreeve.proofs.checks.saltreeve_check.Goals as goal
 
 pub overflow_cast-result : goal.overflow_cast-result

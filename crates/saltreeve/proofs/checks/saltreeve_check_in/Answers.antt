@@ -1,10 +1,8 @@
 -- `saltreeve::checks::saltreeve_check_in` meets its contract. Assumes nothing.
-use mir.Syntax.{w64}
-use mir.ValLaws.{to_z-of_z}
-use lib.IntN.{pos}
+use Rattle.std.proofs.Common.{w64, pos, arith}
+use Rattle.std.proofs.lemmas.Int.{to_z-of_z}
 use Rattle.report.specs.laws.Short.{pages-in-short, text-most}
 use Rattle.saltreeve.specs.laws.Check.{check-in-in-place}
-use native.Mathlib.Omega.{arith}
 use Rattle.saltreeve.proofs.checks.saltreeve_check_in.Goals as goal
 
 pub overflow_cast-result : goal.overflow_cast-result

@@ -1,7 +1,6 @@
 -- `saltreeve::reasons::saltreeve_why` meets its contract. Assumes nothing.
-use native.Mathlib.Omega.{arith}
-use mir.Syntax.{w64}
-use mir.ValLaws.{to_z_pos}
+use Rattle.std.proofs.Common.{arith, w64}
+use Rattle.std.proofs.lemmas.Int.{to_z_pos}
 use Rattle.saltreeve.specs.laws.Why.{why-long, why-written}
 use Rattle.saltreeve.proofs.reasons.saltreeve_why.Goals as goal
 
