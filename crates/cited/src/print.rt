@@ -19,10 +19,7 @@ use store::Item;
 fn is_statement(fields: &Fields) -> bool
     ensures { result ≡ statement_form (form_of (fields_in fields.now)) }
 {
-    matches!(
-        field::words::form(fields.line, fields.ends),
-        Form::Statement(_)
-    )
+    matches!(field::words::form(fields), Form::Statement(_))
 }
 
 // Writes a line of the sheet: `line`, its number, its own bytes.

@@ -48,8 +48,8 @@ fn sides_at(u: Rule, a: usize, b: usize) -> Option<Sides>
     requires { u.head ≡ Head.Sub a b }
     ensures { SidesAre u result }
 {
-    let left = name_of(rule::nodes::node_at(u.nodes, a))?;
-    let right = name_of(rule::nodes::node_at(u.nodes, b))?;
+    let left = name_of(rule::nodes::node_at(&u.nodes, a))?;
+    let right = name_of(rule::nodes::node_at(&u.nodes, b))?;
     Some(Sides {
         left: left.0,
         right: right.0,

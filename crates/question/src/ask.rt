@@ -32,16 +32,8 @@ pub fn about_finding(q: &[u8]) -> bool
 fn stated(known: &Known, q: &Fields) -> Option<Statement>
     ensures { FormAsked (names_in known.now) (form_of (fields_in q.now)) (body_of (fields_in q.now)) result }
 {
-    match field::words::form(q.line, q.ends) {
-        Form::Statement(w) => Some(stated::statements::statement(
-            known.sheet,
-            known.numbers,
-            known.counts,
-            q.line,
-            q.ends,
-            1,
-            w,
-        )),
+    match field::words::form(q) {
+        Form::Statement(w) => Some(stated::statements::statement(known, q, 1, w)),
         _ => None,
     }
 }
@@ -63,15 +55,7 @@ pub fn cell(known: &Known, q: &[u8]) -> Option<Statement>
         return None;
     }
     let n = s.count.min(Sheet::FIELDS);
-    let fault = line::lines::line_fault(
-        known.sheet,
-        known.numbers,
-        known.counts,
-        m,
-        q,
-        s.good,
-        &ends[..n],
-    );
+    let fault = line::lines::line_fault(known, m, q, s.good, &ends[..n]);
     if fault != 0 {
         return None;
     }

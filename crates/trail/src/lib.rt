@@ -7,8 +7,9 @@ ghost use Rattle.field.specs.own.Table.{number_count, table_of};
 ghost use Rattle.sheet.specs.own.Pass.{Paused};
 ghost use Rattle.trail.specs.own.Trail.{Ended, Going, Opens, Sought, Steps};
 
+use breach::Plan;
 use field::known::Known;
-use judge::Search;
+use judge::{Cursor, Search};
 use row::Row;
 use rule::{Finding, Head};
 use sheet::{Accepted, Refused};
@@ -43,14 +44,20 @@ fn ended(counts: Counts, past: usize, line: usize, number: usize) -> Trail
         item: Item(0),
         second: None,
     };
-    let search = Search {
-        finding,
-        x: 0,
-        y: 0,
-        row: none,
+    let plan = Plan {
+        head: Head::Same(Item(0), Item(0)),
         left: none,
         right: none,
-        head: Head::Same(Item(0), Item(0)),
+    };
+    let cursor = Cursor {
+        plan,
+        row: none,
+        x: 0,
+        y: 0,
+    };
+    let search = Search {
+        finding,
+        cursor,
         at: store::size::layout(Store::SMALL),
         counts,
     };

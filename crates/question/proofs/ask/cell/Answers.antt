@@ -14,7 +14,7 @@ returns-then-s-q c = asking-feed _ _ (omega (arith, c.look_from-s.ensures.end, c
 
 pub line_fault-fault-requires : goal.line_fault-fault-requires
 line_fault-fault-requires c = let whole = whole-line c.args.q.now (omega (arith, c.look_from-s.ensures.end, c.if-s-q.false)) in
-    (c.args.known.now.tidy, c.look_from-s.ensures.good ∙ ap (every line_byte) whole, λ short. rw whole at (looked c.look_from-s.ensures _ c.min-n.ensures (omega (arith, ap length whole, short))))
+    (c.look_from-s.ensures.good ∙ ap (every line_byte) whole, λ short. rw whole at (looked c.look_from-s.ensures _ c.min-n.ensures (omega (arith, ap length whole, short))))
 
 pub returns-then-fault-ne0 : goal.returns-then-fault-ne0
 returns-then-fault-ne0 c = asking-wrong _ _ (λ e. c.if-fault-ne0.true (c.line_fault-fault.ensures ∙ e))
