@@ -62,5 +62,6 @@ pub struct Prepared {
 pub fn count(words: &[u64], counts: Counts, rule: Rule) -> Total
     ensures { Totals (width_of words.now) counts rule words.now result }
 {
-    seek::prepare(words, counts, 0, rule, 0).answer
+    let p = seek::prepare(words, counts, 0, rule, 0);
+    p.answer
 }
