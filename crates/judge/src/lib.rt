@@ -71,5 +71,6 @@ pub struct Prepared {
 pub fn count(words: &[u64], counts: Counts, rule: Rule) -> Result<u64, RuleRefusal>
     ensures { Totals (width_of words.now) counts rule words.now result }
 {
-    seek::prepare(words, counts, 0, rule, 0).answer
+    let p = seek::prepare(words, counts, 0, rule, 0);
+    p.answer
 }

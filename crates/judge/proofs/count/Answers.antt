@@ -3,4 +3,4 @@ use Rattle.judge.specs.laws.Search.{totals-by}
 use Rattle.judge.proofs.count.Goals as goal
 
 pub returns : goal.returns
-returns c = totals-by c.prepare.ensures
+returns c = totals-by c.prepare-p.ensures
