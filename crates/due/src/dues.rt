@@ -49,13 +49,7 @@ fn three(a: Due, b: Due, c: Due) -> Lineup
 fn chain_count(n: usize) -> usize
     ensures { result ≡ max chain_shortest (min n chain_longest) }
 {
-    if n < Lineup::CHAIN_SHORTEST {
-        return Lineup::CHAIN_SHORTEST;
-    }
-    if Lineup::CHAIN_LONGEST < n {
-        return Lineup::CHAIN_LONGEST;
-    }
-    n
+    n.min(Lineup::CHAIN_LONGEST).max(Lineup::CHAIN_SHORTEST)
 }
 
 // The roles of a chain, in a line with so many fields.
@@ -91,16 +85,12 @@ fn rule(w: RuleWord, n: usize) -> Lineup
 {
     match w {
         RuleWord::Sub => two(Due::Expr, Due::Expr),
-        RuleWord::RoleSub => two(Due::RoleUse, Due::RoleUse),
+        RuleWord::RoleSub | RuleWord::Dis => two(Due::RoleUse, Due::RoleUse),
         RuleWord::Chain => chain(n),
-        RuleWord::Ref => one(Due::RoleUse),
-        RuleWord::Irr => one(Due::RoleUse),
-        RuleWord::Dis => two(Due::RoleUse, Due::RoleUse),
+        RuleWord::Ref | RuleWord::Irr => one(Due::RoleUse),
         RuleWord::In => two(Due::Expr, Due::Item),
-        RuleWord::Rel => three(Due::RoleUse, Due::Item, Due::Item),
-        RuleWord::NoRel => three(Due::RoleUse, Due::Item, Due::Item),
-        RuleWord::Same => two(Due::Item, Due::Item),
-        RuleWord::Differ => two(Due::Item, Due::Item),
+        RuleWord::Rel | RuleWord::NoRel => three(Due::RoleUse, Due::Item, Due::Item),
+        RuleWord::Same | RuleWord::Differ => two(Due::Item, Due::Item),
     }
 }
 
@@ -126,17 +116,12 @@ pub fn due_at(l: Lineup, k: usize) -> Due
     if l.count <= k {
         return Due::Nothing;
     }
-    let first = l.first;
-    let second = l.second;
-    let third = l.third;
-    let fourth = l.fourth;
-    let fifth = l.fifth;
     match k {
-        0 => first,
-        1 => second,
-        2 => third,
-        3 => fourth,
-        4 => fifth,
+        0 => l.first,
+        1 => l.second,
+        2 => l.third,
+        3 => l.fourth,
+        4 => l.fifth,
         _ => Due::Nothing,
     }
 }
@@ -145,17 +130,5 @@ pub fn due_at(l: Lineup, k: usize) -> Due
 pub fn is_expr(d: Due) -> bool
     ensures { result ≡ is_expr d }
 {
-    match d {
-        Due::NewConcept => false,
-        Due::NewRole => false,
-        Due::NewItem => false,
-        Due::Concept => false,
-        Due::Role => false,
-        Due::Item => false,
-        Due::RoleUse => false,
-        Due::AtLeast => false,
-        Due::AtMost => false,
-        Due::Expr => true,
-        Due::Nothing => false,
-    }
+    matches!(d, Due::Expr)
 }

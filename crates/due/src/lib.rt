@@ -7,17 +7,16 @@ pub mod dues;
 // What is due first in the middle of an expression, before some expressions.
 #[derive(Clone, Copy)]
 pub enum Lead {
-    None,
     RoleUse,
     AtLeast,
     AtMost,
     Item,
 }
 
-// What is still due in a line: the lead, so many expressions, and of the line-up what comes after its first so many.
+// What is still due in a line: a lead or none, so many expressions, and of the line-up what comes after its first so many.
 #[derive(Clone, Copy)]
 pub struct Pending {
-    pub lead: Lead,
+    pub lead: Option<Lead>,
     pub exprs: usize,
     pub own: usize,
 }

@@ -1,41 +1,40 @@
-ghost use Rattle.std.specs.Prelude.{◌≡◌, map, ◌+◌, ◌≤◌, ◌<◌, length};
+ghost use Rattle.std.specs.Prelude.{◌≡◌, map, ◌+◌, ◌/◌, ◌%◌, ◌≤◌, ◌<◌, length};
 ghost use Rattle.logic.specs.Number.{Distinct};
 ghost use Rattle.store.specs.Layout.{large};
 ghost use Rattle.text.specs.Bytes.{place, same};
 ghost use Rattle.field.specs.Names.{inverted as inverted_of, plain as plain_of, count_of};
-ghost use Rattle.field.specs.own.Table.{Hinted, Placed, Tidy, concepts_from, entered, hint_at, hint_count, key_of, name_at, names_of, number_count, room_at, room_of, table_of, tag_count, tag_of};
+ghost use Rattle.text.specs.own.Split.{part_of};
+ghost use Rattle.field.specs.own.Known.{names_in};
+ghost use Rattle.field.specs.own.Table.{Hinted, Placed, concepts_from, entered, hint_at, hint_count, key_of, length_count, name_at, number_count, place_count, tag_count, tag_of};
 
 use crate::Table;
-use store::Counts;
+use crate::known::Known;
 
 // The tag of a name, made of its last two bytes.
 pub fn tag(w: &[u8]) -> u32
     ensures { (result ≡ tag_of w.now) × (result < tag_count) }
 {
-    let n = w.len();
-    if n == 0 {
-        return 0;
+    match w {
+        [] => 0,
+        [last] => 17 * u32::from(*last) % Table::TAGS,
+        [.., before, last] => (u32::from(*last) + 16 * u32::from(*before)) % Table::TAGS,
     }
-    let last = w[n - 1] as u32;
-    if n == 1 {
-        return (last + 16 * last) % Table::TAGS;
-    }
-    let before = w[n - 2] as u32;
-    (last + 16 * before) % Table::TAGS
+}
+
+// The bytes of the sheet that an entry points to.
+fn pointed(sheet: &[u8], p: u32) -> &[u8]
+    ensures { result.now ≡ part_of sheet.now (p / length_count % place_count) (p % length_count) }
+{
+    let start = (p / Table::LENGTHS % Table::PLACES) as usize;
+    text::part::part(sheet, start, (p % Table::LENGTHS) as usize)
 }
 
 // The name of an entry.
 pub fn name_at(sheet: &[u8], p: u32) -> &[u8]
     ensures { result.now ≡ name_at sheet.now p }
 {
-    let start = (p / Table::LENGTHS % Table::PLACES) as usize;
-    let count = (p % Table::LENGTHS) as usize;
-    let f = text::part::part(sheet, start, count);
-    if tag(f) == p / Table::TAGGED {
-        f
-    } else {
-        text::part::part(sheet, 0, 0)
-    }
+    let f = pointed(sheet, p);
+    if tag(f) == p / Table::TAGGED { f } else { &[] }
 }
 
 // Whether the name of an entry is w, which has the tag given.
@@ -43,15 +42,10 @@ fn entry_is(sheet: &[u8], p: u32, w: &[u8], key: u32) -> bool
     requires { key ≡ tag_of w.now }
     ensures { result ≡ same w.now (name_at sheet.now p) }
 {
-    if w.len() == 0 {
+    if w.is_empty() {
         return text::part::same(w, name_at(sheet, p));
     }
-    if p / Table::TAGGED != key {
-        return false;
-    }
-    let start = (p / Table::LENGTHS % Table::PLACES) as usize;
-    let count = (p % Table::LENGTHS) as usize;
-    text::part::same(w, text::part::part(sheet, start, count))
+    p / Table::TAGGED == key && text::part::same(w, pointed(sheet, p))
 }
 
 // The place of the name w, which has the tag given, among the entries, from 0; how many there are where it is none of them.
@@ -59,14 +53,12 @@ fn place_in(sheet: &[u8], entries: &[u32], w: &[u8], key: u32) -> usize
     requires { key ≡ tag_of w.now }
     ensures { result ≡ place w.now (map (name_at sheet.now) entries.now) }
 {
-    let mut i = 0;
-    while i < entries.len() {
+    for i in 0..entries.len() {
         if entry_is(sheet, entries[i], w, key) {
             return i;
         }
-        i += 1;
     }
-    i
+    entries.len()
 }
 
 // A number below the hints, made of a name's first four bytes and its last four, or of its tag.
@@ -90,82 +82,66 @@ pub fn hint_at(from: usize, w: &[u8]) -> usize
     (key(w) + from) % Table::KEYS
 }
 
-// One of the lent numbers, as a count.
-fn number(h: u32) -> usize
-    ensures { result ≡ h }
-{
-    h as usize
-}
-
-// How many items the sheet's edition has room for.
-pub fn room(names: &[u32]) -> usize
-    requires { room_at < length names.now }
-    ensures { result ≡ room_of names.now }
-{
-    number(names[Table::ROOM])
-}
-
-// The place of the name w among the n names whose entries begin at a place; n where it is none of them. Without a hint it is none of them; the place that the hint says, one less than it, is only tried first.
-fn find(sheet: &[u8], names: &[u32], from: usize, n: usize, w: &[u8]) -> usize
-    requires { (concepts_from ≤ from) × (from < number_count large) × (from + n ≤ length names.now) × Distinct (entered sheet.now names.now from n) × Hinted names.now from (entered sheet.now names.now from n) }
-    ensures { Placed w.now (entered sheet.now names.now from n) n result }
-{
-    let h = number(names[hint_at(from, w)]);
-    if h == 0 {
-        return n;
-    }
-    let key = tag(w);
-    if h <= n {
-        if entry_is(sheet, names[from + (h - 1)], w, key) {
+impl<'a> Known<'a> {
+    // The place of the name w among the n names whose entries begin at a place; n where it is none of them. Without a hint it is none of them; the place that the hint says, one less than it, is only tried first.
+    fn find(&self, from: usize, n: usize, w: &[u8]) -> usize
+        requires { (concepts_from ≤ from) × (from < number_count large) × (from + n ≤ length self.now.numbers.now) × Distinct (entered self.now.sheet.now self.now.numbers.now from n) × Hinted self.now.numbers.now from (entered self.now.sheet.now self.now.numbers.now from n) }
+        ensures { Placed w.now (entered self.now.sheet.now self.now.numbers.now from n) n result }
+    {
+        let h = self.numbers[hint_at(from, w)] as usize;
+        if h == 0 {
+            return n;
+        }
+        let key = tag(w);
+        if h <= n && entry_is(self.sheet, self.numbers[from + (h - 1)], w, key) {
             return h - 1;
         }
-        return place_in(sheet, &names[from..from + n], w, key);
+        place_in(self.sheet, &self.numbers[from..from + n], w, key)
     }
-    place_in(sheet, &names[from..from + n], w, key)
-}
 
-// The place of the name w among the concepts.
-pub fn concept(sheet: &[u8], names: &[u32], counts: Counts, w: &[u8]) -> usize
-    requires { Tidy sheet.now (table_of names.now counts) }
-    ensures { Placed w.now (names_of sheet.now (table_of names.now counts)).concepts counts.concepts result }
-{
-    find(sheet, names, Table::CONCEPTS, counts.concepts, w)
-}
+    // The place of the name w among the concepts.
+    pub fn concept(&self, w: &[u8]) -> usize
+        ensures { Placed w.now (names_in self.now).concepts self.now.counts.concepts result }
+    {
+        self.find(Table::CONCEPTS, self.counts.concepts, w)
+    }
 
-// The place of the name w among the roles.
-pub fn role(sheet: &[u8], names: &[u32], counts: Counts, w: &[u8]) -> usize
-    requires { Tidy sheet.now (table_of names.now counts) }
-    ensures { Placed w.now (names_of sheet.now (table_of names.now counts)).roles counts.roles result }
-{
-    find(sheet, names, Table::ROLES, counts.roles, w)
-}
+    // The place of the name w among the roles.
+    pub fn role(&self, w: &[u8]) -> usize
+        ensures { Placed w.now (names_in self.now).roles self.now.counts.roles result }
+    {
+        self.find(Table::ROLES, self.counts.roles, w)
+    }
 
-// The place of the name w among the items.
-pub fn item(sheet: &[u8], names: &[u32], counts: Counts, w: &[u8]) -> usize
-    requires { Tidy sheet.now (table_of names.now counts) }
-    ensures { Placed w.now (names_of sheet.now (table_of names.now counts)).items counts.items result }
-{
-    find(sheet, names, Table::ITEMS, counts.items, w)
+    // The place of the name w among the items.
+    pub fn item(&self, w: &[u8]) -> usize
+        ensures { Placed w.now (names_in self.now).items self.now.counts.items result }
+    {
+        self.find(Table::ITEMS, self.counts.items, w)
+    }
+
+    // How many items the sheet's edition has room for.
+    pub fn room(&self) -> usize
+        ensures { result ≡ (names_in self.now).room }
+    {
+        self.numbers[Table::ROOM] as usize
+    }
 }
 
 // Whether `~` stands before a role.
 pub fn inverted(f: &[u8]) -> bool
     ensures { result ≡ inverted_of f.now }
 {
-    if 0 < f.len() {
-        return f[0] == 126;
-    }
-    false
+    matches!(f, [b'~', ..])
 }
 
 // The role's name without it.
 pub fn plain(f: &[u8]) -> &[u8]
     ensures { result.now ≡ plain_of f.now }
 {
-    if inverted(f) {
-        text::part::part(f, 1, f.len())
-    } else {
-        f
+    match f {
+        [b'~', name @ ..] => name,
+        _ => f,
     }
 }
 
@@ -173,8 +149,8 @@ pub fn plain(f: &[u8]) -> &[u8]
 pub fn count(f: &[u8]) -> usize
     ensures { (result ≡ count_of f.now) × (result ≤ 255) }
 {
-    if 0 < f.len() {
-        return text::date::digit(f[0]) as usize;
+    match f {
+        [digit, ..] => usize::from(text::date::digit(*digit)),
+        [] => 255,
     }
-    255
 }

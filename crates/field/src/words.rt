@@ -1,10 +1,11 @@
 ghost use Rattle.std.specs.Prelude.{◌≡◌};
-ghost use Rattle.text.specs.Split.{fields};
 ghost use Rattle.field.specs.Names.{reserved as reserved_of};
 ghost use Rattle.field.specs.Words.{form_of, is_rule, line_form, operator_of, rule_form, section_of};
 ghost use Rattle.field.specs.own.Code.{is_word};
-ghost use Rattle.field.specs.own.Line.{Looked, words_of};
+ghost use Rattle.field.specs.own.Known.{fields_in};
+ghost use Rattle.field.specs.own.Line.{words_of};
 
+use crate::known::Fields;
 use crate::{Form, Operator, RuleWord, Section, StatementWord};
 
 // The word of an expression that a field is.
@@ -43,20 +44,7 @@ pub fn operator(f: &[u8]) -> Operator
 fn is_word(w: Operator) -> bool
     ensures { result ≡ is_word w }
 {
-    match w {
-        Operator::And => true,
-        Operator::Or => true,
-        Operator::Not => true,
-        Operator::Some => true,
-        Operator::All => true,
-        Operator::AtLeast => true,
-        Operator::AtMost => true,
-        Operator::SelfOf => true,
-        Operator::One => true,
-        Operator::Top => true,
-        Operator::Bot => true,
-        Operator::None => false,
-    }
+    !matches!(w, Operator::None)
 }
 
 // Whether a field is one of the words of expressions.
@@ -132,14 +120,13 @@ fn is_rule(f: &[u8]) -> bool
 }
 
 // What a line is, by its word or words.
-pub fn form(line: &[u8], ends: &[u16]) -> Form
-    requires { Looked line.now ends.now }
-    ensures { result ≡ form_of (fields line.now) }
+pub fn form(fields: &Fields) -> Form
+    ensures { result ≡ form_of (fields_in fields.now) }
 {
-    let w = reader::scan::field(line, ends, 0);
+    let w = reader::scan::field(fields.line, fields.ends, 0);
     if is_rule(w) {
-        if 1 < ends.len() {
-            return rule_form(reader::scan::field(line, ends, 1));
+        if 1 < fields.ends.len() {
+            return rule_form(reader::scan::field(fields.line, fields.ends, 1));
         }
         return Form::Bare;
     }
@@ -151,13 +138,8 @@ pub fn words(f: Form) -> usize
     ensures { result ≡ words_of f }
 {
     match f {
-        Form::Concept => 1,
-        Form::Role => 1,
-        Form::Item => 1,
-        Form::Statement(_) => 1,
-        Form::Rule(_) => 2,
-        Form::Bare => 2,
-        Form::Unknown => 1,
+        Form::Rule(_) | Form::Bare => 2,
+        _ => 1,
     }
 }
 
@@ -166,12 +148,9 @@ pub fn section(f: Form) -> Section
     ensures { result ≡ section_of f }
 {
     match f {
-        Form::Concept => Section::Declarations,
-        Form::Role => Section::Declarations,
-        Form::Item => Section::Declarations,
+        Form::Concept | Form::Role | Form::Item => Section::Declarations,
         Form::Statement(_) => Section::Statements,
-        Form::Rule(_) => Section::Rules,
-        Form::Bare => Section::Rules,
+        Form::Rule(_) | Form::Bare => Section::Rules,
         Form::Unknown => Section::None,
     }
 }

@@ -1,33 +1,27 @@
-ghost use Rattle.std.specs.Prelude.{◌≡◌, ◌-◌, ◌≤◌, ltb, length, drop};
+ghost use Rattle.std.specs.Prelude.{◌≡◌, ◌≤◌, ltb, length, drop};
 ghost use Rattle.text.specs.Bytes.{every};
 ghost use Rattle.text.specs.Name.{line_byte};
-ghost use Rattle.text.specs.Split.{fields};
 ghost use Rattle.rule.specs.Form.{node_limit};
 ghost use Rattle.field.specs.Names.{fault};
 ghost use Rattle.line.specs.Fault.{ended as ended_by, fields_fault, form_fault, full as full_by, headed as headed_by, header_fault, is_second, line_fault, line_limit, room_by, unknown as unknown_by};
-ghost use Rattle.field.specs.own.Table.{Tidy, names_of, table_of};
+ghost use Rattle.field.specs.own.Known.{fields_in, names_in};
 ghost use Rattle.field.specs.Words.{body_of, form_of};
 ghost use Rattle.field.specs.own.Line.{Looked, words_of};
 
 use crate::{Marks, Sheet};
+use field::known::{Fields, Known};
 use field::{Form, Section};
 use rule::Rule;
-use store::{Counts, Store};
+use store::Store;
 
 // Whether the section has ended.
 fn ended(m: Marks, s: Section) -> bool
     ensures { result ≡ ended_by m s }
 {
     match s {
-        Section::Declarations => {
-            if m.stated {
-                return true;
-            }
-            0 < m.rules
-        }
+        Section::Declarations => m.stated || 0 < m.rules,
         Section::Statements => 0 < m.rules,
-        Section::Rules => false,
-        Section::None => false,
+        _ => false,
     }
 }
 
@@ -35,24 +29,14 @@ fn ended(m: Marks, s: Section) -> bool
 fn unknown(s: Section) -> bool
     ensures { result ≡ unknown_by s }
 {
-    match s {
-        Section::Declarations => false,
-        Section::Statements => false,
-        Section::Rules => false,
-        Section::None => true,
-    }
+    matches!(s, Section::None)
 }
 
 // Whether there is no room for one more rule.
 fn full(m: Marks, s: Section) -> bool
     ensures { result ≡ full_by m s }
 {
-    match s {
-        Section::Declarations => false,
-        Section::Statements => false,
-        Section::Rules => Sheet::RULES <= m.rules,
-        Section::None => false,
-    }
+    matches!(s, Section::Rules) && Sheet::RULES <= m.rules
 }
 
 // What is wrong with the room for rules, or with so many nodes.
@@ -68,32 +52,15 @@ fn size_fault(filled: bool, nodes: usize) -> usize
     0
 }
 
-// What is left of n after the first k.
-fn after(n: usize, k: usize) -> usize
-    ensures { result ≡ n - k }
-{
-    if n < k {
-        return 0;
-    }
-    n - k
-}
-
 // What is wrong with the fields of a line of the form given, after its word or words.
-fn fields_fault(
-    sheet: &[u8],
-    names: &[u32],
-    counts: Counts,
-    m: Marks,
-    line: &[u8],
-    ends: &[u16],
-    f: Form,
-) -> usize
-    requires { Tidy sheet.now (table_of names.now counts) × Looked line.now ends.now × (length line.now ≤ line_limit) }
-    ensures { result ≡ fields_fault (names_of sheet.now (table_of names.now counts)) m f (drop (words_of f) (fields line.now)) }
+#[tactic(auto, unfolding(crate::specs::Fault::fields_fault))]
+fn fields_fault(known: &Known, m: Marks, fields: &Fields, f: Form) -> usize
+    requires { length fields.now.line.now ≤ line_limit }
+    ensures { result ≡ fields_fault (names_in known.now) m f (drop (words_of f) (fields_in fields.now)) }
 {
     let from = field::words::words(f);
-    let l = due::dues::lineup(f, after(ends.len(), from));
-    let w = crate::walk::walk(sheet, names, counts, line, ends, from, l);
+    let l = due::dues::lineup(f, fields.ends.len().saturating_sub(from));
+    let w = crate::walk::walk(known, fields, from, l);
     if !w.fits {
         return 14;
     }
@@ -102,18 +69,12 @@ fn fields_fault(
 }
 
 // What is wrong with a line, by its form.
-fn form_fault(
-    sheet: &[u8],
-    names: &[u32],
-    counts: Counts,
-    m: Marks,
-    line: &[u8],
-    ends: &[u16],
-) -> usize
-    requires { Tidy sheet.now (table_of names.now counts) × Looked line.now ends.now × (length line.now ≤ line_limit) }
-    ensures { result ≡ form_fault (names_of sheet.now (table_of names.now counts)) m (form_of (fields line.now)) (body_of (fields line.now)) }
+#[tactic(auto, unfolding(crate::specs::Fault::form_fault))]
+fn form_fault(known: &Known, m: Marks, fields: &Fields) -> usize
+    requires { length fields.now.line.now ≤ line_limit }
+    ensures { result ≡ form_fault (names_in known.now) m (form_of (fields_in fields.now)) (body_of (fields_in fields.now)) }
 {
-    let f = field::words::form(line, ends);
+    let f = field::words::form(fields);
     let s = field::words::section(f);
     if unknown(s) {
         return 12;
@@ -121,32 +82,22 @@ fn form_fault(
     if ended(m, s) {
         return 13;
     }
-    fields_fault(sheet, names, counts, m, line, ends, f)
+    fields_fault(known, m, fields, f)
 }
 
 // What is wrong with a line after the first, whose bytes are good or not, and which was looked at if it is not too long: the lowest number that applies, or 0.
-pub fn line_fault(
-    sheet: &[u8],
-    names: &[u32],
-    counts: Counts,
-    m: Marks,
-    line: &[u8],
-    good: bool,
-    ends: &[u16],
-) -> usize
-    requires { Tidy sheet.now (table_of names.now counts) × (good ≡ every line_byte line.now) × (length line.now ≤ line_limit → Looked line.now ends.now) }
-    ensures { result ≡ line_fault (names_of sheet.now (table_of names.now counts)) m line.now }
+#[tactic(auto, unfolding(crate::specs::Fault::line_fault))]
+pub fn line_fault(known: &Known, m: Marks, line: &[u8], good: bool, ends: &[u16]) -> usize
+    requires { (good ≡ every line_byte line.now) × (length line.now ≤ line_limit → Looked line.now ends.now) }
+    ensures { result ≡ line_fault (names_in known.now) m line.now }
 {
-    if line.len() == 0 {
+    if line.is_empty() {
         return 0;
     }
-    if Sheet::LINE < line.len() {
+    if Sheet::LINE < line.len() || !good {
         return 10;
     }
-    if !good {
-        return 10;
-    }
-    form_fault(sheet, names, counts, m, line, ends)
+    form_fault(known, m, &Fields { line, ends })
 }
 
 // Whether line 1 is the header of edition 2.
@@ -160,33 +111,27 @@ fn second(line: &[u8]) -> bool
 fn headed(width: usize, line: &[u8]) -> bool
     ensures { result ≡ headed_by width line.now }
 {
-    if text::part::same(line, b"sheet\t1") {
-        return true;
-    }
-    if second(line) {
-        return Store::LARGE <= width;
-    }
-    false
+    text::part::same(line, b"sheet\t1") || second(line) && Store::LARGE <= width
 }
 
 // The most items of a sheet, by its line 1: those of its edition.
+#[tactic(auto, unfolding(crate::specs::Fault::room_by))]
 pub fn item_room(line: &[u8]) -> usize
     ensures { result ≡ room_by line.now }
 {
     if second(line) {
-        return Store::LARGE_ITEMS;
+        Store::LARGE_ITEMS
+    } else {
+        Store::ITEMS
     }
-    Store::ITEMS
 }
 
 // What is wrong with line 1, with a store with item rows of so many words.
+#[tactic(auto, unfolding(crate::specs::Fault::header_fault))]
 pub fn header_fault(width: usize, line: &[u8]) -> usize
     ensures { result ≡ header_fault width line.now }
 {
-    if Sheet::LINE < line.len() {
-        return 10;
-    }
-    if !text::name::line_bytes(line) {
+    if Sheet::LINE < line.len() || !text::name::line_bytes(line) {
         return 10;
     }
     if !headed(width, line) {

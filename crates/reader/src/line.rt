@@ -4,29 +4,11 @@ ghost use Rattle.reader.specs.own.Field.{field_at, field_from, past_field};
 
 use crate::scan::Scan;
 
-// The field at a place of a line, from its start to its end; or none any more.
-#[derive(Clone, Copy)]
-pub enum Next {
-    At(usize, usize),
-    End,
-}
-
 // The reader of a line: the line that it reads, or the text that the line stands in, and its place there.
 #[derive(Clone, Copy)]
 pub struct Reader<'a> {
     pub line: &'a [u8],
     pub at: usize,
-}
-
-// The field that starts at a place of a line.
-fn field_at(line: &[u8], at: usize) -> Next
-    ensures { result ≡ field_at line.now at }
-{
-    if at <= line.len() {
-        let end = text::part::end_of(line, at, 9);
-        return Next::At(at, end);
-    }
-    Next::End
 }
 
 // The reader at a place of a line or of a text.
@@ -37,11 +19,16 @@ pub fn reader_at<'a>(line: &'a [u8], at: usize) -> Reader<'a>
 }
 
 impl<'a> Reader<'a> {
-    // The field that the reader stands at.
-    pub fn next_field(self) -> Next
+    // The field that the reader stands at, from its start to its end; or none any more.
+    #[tactic(auto, unfolding(crate::specs::own::Field::field_at))]
+    pub fn next_field(self) -> Option<(usize, usize)>
         ensures { result ≡ field_at self.entry.line.now self.entry.at }
     {
-        field_at(self.line, self.at)
+        if self.at <= self.line.len() {
+            Some((self.at, text::part::end_of(self.line, self.at, b'\t')))
+        } else {
+            None
+        }
     }
 
     // One look at the line that the reader stands at: the ends of its fields go into the lent room.
@@ -54,7 +41,7 @@ impl<'a> Reader<'a> {
 }
 
 // The field at a place of a line, by a reader that stands there.
-pub fn next_from(line: &[u8], at: usize) -> Next
+pub fn next_from(line: &[u8], at: usize) -> Option<(usize, usize)>
     ensures { result ≡ field_at line.now at }
 {
     reader_at(line, at).next_field()
@@ -72,10 +59,9 @@ pub fn look_from(text: &[u8], at: usize, ends: &mut [u16]) -> Scan
 pub fn field(line: &[u8], at: usize) -> &[u8]
     ensures { result.now ≡ field_from line.now at }
 {
-    let f = next_from(line, at);
-    match f {
-        Next::At(start, end) => text::part::part(line, start, end - start),
-        Next::End => &line[..0],
+    match next_from(line, at) {
+        Some((start, end)) => &line[start..end],
+        None => &[],
     }
 }
 
@@ -83,9 +69,8 @@ pub fn field(line: &[u8], at: usize) -> &[u8]
 pub fn past(line: &[u8], at: usize) -> usize
     ensures { result ≡ past_field line.now at }
 {
-    let f = next_from(line, at);
-    match f {
-        Next::At(_, end) => end + 1,
-        Next::End => at,
+    match next_from(line, at) {
+        Some((_, end)) => end + 1,
+        None => at,
     }
 }

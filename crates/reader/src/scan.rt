@@ -38,19 +38,16 @@ fn close(ends: &mut [u16], at: usize, n: usize, i: usize, good: bool) -> Scan
 fn still(good: bool, b: u8) -> bool
     ensures { result ≡ (if line_byte b then good else false) }
 {
-    if text::name::line_byte(b) {
-        return good;
-    }
-    false
+    text::name::line_byte(b) && good
 }
 
 // 0 where all eight bytes of x may stand in a field; otherwise the lowest bit of the answer stands in the first byte that may not.
 fn mask(x: u64) -> u64
     ensures { Masks x result }
 {
-    let a = std::num::wrapping_add_u64(x, 72340172838076673);
-    let d = std::num::wrapping_sub_u64(11502087481254191007, x);
-    (x | a | d) & 9259542123273814144
+    let a = x.wrapping_add(0x0101_0101_0101_0101);
+    let d = 0x9f9f_9f9f_9f9f_9f9fu64.wrapping_sub(x);
+    (x | a | d) & 0x8080_8080_8080_8080
 }
 
 // Past bytes that may stand in a field, from a place on, eight at a time where eight are left.
@@ -58,6 +55,7 @@ fn skip(text: &[u8], at: usize) -> usize
     requires { at ≤ length text.now }
     ensures { Skips text.now at result }
 {
+    // A while, since it goes on by eight bytes at a time, for speed.
     let mut i = at;
     if 8 <= text.len() {
         let top = text.len() - 8;
@@ -66,7 +64,7 @@ fn skip(text: &[u8], at: usize) -> usize
             if m == 0 {
                 i += 8;
             } else {
-                return i + (u64::trailing_zeros(m) / 8) as usize;
+                return i + (m.trailing_zeros() / 8) as usize;
             }
         }
         return skip_one(text, at, i);
@@ -79,18 +77,12 @@ fn skip_one(text: &[u8], at: usize, from: usize) -> usize
     requires { Skips text.now at from }
     ensures { Skips text.now at result }
 {
-    let mut i = from;
-    while i < text.len() {
-        let b = text[i];
-        if b < 32 {
+    for i in from..text.len() {
+        if !matches!(text[i], b' '..=b'~') {
             return i;
         }
-        if 126 < b {
-            return i;
-        }
-        i += 1;
     }
-    i
+    text.len()
 }
 
 // One look at the line that starts at a place of the text: the end of each field, counted from the line's start, goes into the lent room, as far as it reaches.
@@ -98,6 +90,7 @@ pub(crate) fn line(text: &[u8], at: usize, ends: &mut [u16]) -> Scan
     requires { (at ≤ length text.now) × (length text.now < 65536) }
     ensures { Scanned text.now at ends.old ends.new result }
 {
+    // A while, since each turn goes on past a whole run of bytes.
     let mut i = at;
     let mut n = 0;
     let mut good = true;
@@ -107,11 +100,11 @@ pub(crate) fn line(text: &[u8], at: usize, ends: &mut [u16]) -> Scan
             return close(ends, at, n, j, good);
         }
         let b = text[j];
-        if b == 10 {
+        if b == b'\n' {
             return close(ends, at, n, j, good);
         }
         i = j + 1;
-        if b == 9 {
+        if b == b'\t' {
             mark(ends, n, j - at);
             n += 1;
         } else {
@@ -126,7 +119,7 @@ fn end(ends: &[u16], k: usize) -> usize
     requires { k < length ends.now }
     ensures { (result ≡ slice_index ends.now k) × (result < 65536) }
 {
-    ends[k] as usize
+    usize::from(ends[k])
 }
 
 // Where the field k of a line starts.
@@ -145,7 +138,5 @@ pub fn field<'a>(line: &'a [u8], ends: &[u16], k: usize) -> &'a [u8]
     requires { Ended line.now ends.now × (k < length (fields line.now)) × (k < length ends.now) }
     ensures { result.now ≡ slice_index_or (fields line.now) k [] }
 {
-    let s = start(ends, k);
-    let e = end(ends, k);
-    &line[s..e]
+    &line[start(ends, k)..end(ends, k)]
 }

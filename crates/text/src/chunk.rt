@@ -3,19 +3,12 @@ ghost use Rattle.text.specs.Bytes.{same};
 ghost use Rattle.text.specs.own.Split.{part_of};
 ghost use Rattle.text.specs.own.Chunk.{low};
 
-// A byte as a number.
-fn wide(b: u8) -> u64
-    ensures { (result ≡ b) × (result ≤ 255) }
-{
-    b as u64
-}
-
 // Four bytes as one number, the first lowest.
 pub fn four(s: &[u8], at: usize) -> u64
     requires { at + 4 ≤ length s.now }
     ensures { (result ≡ low (part_of s.now at 4)) × (result < 4294967296) }
 {
-    wide(s[at]) + 256 * wide(s[at + 1]) + 65536 * wide(s[at + 2]) + 16777216 * wide(s[at + 3])
+    u64::from(u32::from_le_bytes([s[at], s[at + 1], s[at + 2], s[at + 3]]))
 }
 
 // Eight bytes as one number, the first lowest.
@@ -23,14 +16,16 @@ pub fn eight(s: &[u8], at: usize) -> u64
     requires { at + 8 ≤ length s.now }
     ensures { result ≡ low (part_of s.now at 8) }
 {
-    wide(s[at])
-        + 256 * wide(s[at + 1])
-        + 65536 * wide(s[at + 2])
-        + 16777216 * wide(s[at + 3])
-        + 4294967296 * wide(s[at + 4])
-        + 1099511627776 * wide(s[at + 5])
-        + 281474976710656 * wide(s[at + 6])
-        + 72057594037927936 * wide(s[at + 7])
+    u64::from_le_bytes([
+        s[at],
+        s[at + 1],
+        s[at + 2],
+        s[at + 3],
+        s[at + 4],
+        s[at + 5],
+        s[at + 6],
+        s[at + 7],
+    ])
 }
 
 // Whether the bytes of the text from a place on are w, which has 8 or more: by eights, the last first.
@@ -42,6 +37,7 @@ fn same_long(text: &[u8], start: usize, w: &[u8]) -> bool
     if eight(text, start + last) != eight(w, last) {
         return false;
     }
+    // A while, since it goes on by eight bytes at a time, for speed.
     let mut i = 0;
     while i < last {
         if eight(text, start + i) != eight(w, i) {
@@ -58,13 +54,7 @@ fn same_middle(text: &[u8], start: usize, w: &[u8]) -> bool
     ensures { result ≡ same w.now (part_of text.now start (length w.now)) }
 {
     let last = w.len() - 4;
-    if four(text, start + last) != four(w, last) {
-        return false;
-    }
-    if four(text, start) != four(w, 0) {
-        return false;
-    }
-    true
+    four(text, start + last) == four(w, last) && four(text, start) == four(w, 0)
 }
 
 // The same of any bytes.
@@ -79,12 +69,10 @@ pub fn same_at(text: &[u8], start: usize, w: &[u8]) -> bool
     if 4 <= n {
         return same_middle(text, start, w);
     }
-    let mut i = 0;
-    while i < n {
+    for i in 0..n {
         if text[start + i] != w[i] {
             return false;
         }
-        i += 1;
     }
     true
 }

@@ -6,16 +6,11 @@ ghost use Rattle.text.specs.Date.{digit as digit_of, two_digits, month as month_
 const DAYS: [u8; 12] = [31, 29, 31, 30, 31, 30, 31, 31, 30, 31, 30, 31];
 
 // A-Z as a-z.
+#[tactic(auto, unfolding(crate::specs::Bytes::lower))]
 fn lower(b: u8) -> u8
     ensures { result ≡ lower_of b }
 {
-    if 65 <= b {
-        if b <= 90 {
-            return b + 32;
-        }
-        return b;
-    }
-    b
+    b.to_ascii_lowercase()
 }
 
 // The place of the month with these first letters, from 0; 12 where there is none.
@@ -27,69 +22,47 @@ fn month(a: u8, b: u8, c: u8) -> usize
 }
 
 // The value of a digit, or 255.
+#[tactic(auto, unfolding(crate::specs::Date::digit))]
 pub fn digit(b: u8) -> u8
     ensures { result ≡ digit_of b }
 {
-    if 48 <= b {
-        if b <= 57 {
-            return b - 48;
-        }
-        return 255;
-    }
-    255
+    if b.is_ascii_digit() { b - b'0' } else { 255 }
 }
 
 // The value of two digits, or 255.
+#[tactic(auto, unfolding(crate::specs::Date::two_digits))]
 fn two_digits(a: u8, b: u8) -> u8
     ensures { result ≡ two_digits a b }
 {
     let x = digit(a);
     let y = digit(b);
-    if x <= 9 {
-        if y <= 9 {
-            return x * 10 + y;
-        }
-        return 255;
-    }
-    255
+    if x <= 9 && y <= 9 { x * 10 + y } else { 255 }
 }
 
 // The days of the month at a place; 0 where there is no month.
+#[tactic(auto, unfolding(crate::specs::Date::days_in))]
 fn days_in(month: usize) -> u8
     ensures { result ≡ days_in month }
 {
-    if month < 12 {
-        return DAYS[month];
-    }
-    0
+    if month < DAYS.len() { DAYS[month] } else { 0 }
 }
 
 // Whether a day's value, a byte and three letters make a date.
+#[tactic(auto, unfolding(crate::specs::Date::dated, crate::specs::Date::days_in))]
 fn is_date(day: u8, hyphen: u8, a: u8, b: u8, c: u8) -> bool
     ensures { result ≡ dated day hyphen (month_of a b c) }
 {
-    if hyphen == 45 {
-        if 1 <= day {
-            if day <= 31 {
-                return day <= days_in(month(a, b, c));
-            }
-            return false;
-        }
-        return false;
-    }
-    false
+    hyphen == b'-' && 1 <= day && day <= 31 && day <= days_in(month(a, b, c))
 }
 
 // Whether the bytes are date-shaped.
+#[tactic(auto, unfolding(crate::specs::Date::date_shaped))]
 pub fn date_shaped(s: &[u8]) -> bool
     ensures { result ≡ date_shaped s.now }
 {
-    let n = s.len();
-    if n == 5 {
-        return is_date(digit(s[0]), s[1], s[2], s[3], s[4]);
+    match s {
+        [x, hyphen, a, b, c] => is_date(digit(*x), *hyphen, *a, *b, *c),
+        [x, y, hyphen, a, b, c] => is_date(two_digits(*x, *y), *hyphen, *a, *b, *c),
+        _ => false,
     }
-    if n == 6 {
-        return is_date(two_digits(s[0], s[1]), s[2], s[3], s[4], s[5]);
-    }
-    false
 }

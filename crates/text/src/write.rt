@@ -8,19 +8,8 @@ pub fn put(room: &mut [u8], at: usize, b: u8) -> usize
 {
     if at < room.len() {
         room[at] = b;
-        return at + 1;
     }
     at + 1
-}
-
-// How many of so many bytes have place in the room from a place on.
-fn fitting(room: usize, at: usize, count: usize) -> usize
-    ensures { result ≡ min count (room - at) }
-{
-    if at < room {
-        return row::number::lesser(count, room - at);
-    }
-    0
 }
 
 // Writes bytes at a place of the room, as far as it reaches; gives the place past them.
@@ -28,11 +17,9 @@ pub fn put_all(room: &mut [u8], at: usize, bytes: &[u8]) -> usize
     requires { (at < 1000000) × (length bytes.now ≤ 100000) }
     ensures { Wrote room.old at bytes.now room.new result }
 {
-    let n = fitting(room.len(), at, bytes.len());
-    let mut i = 0;
-    while i < n {
-        room[at + i] = bytes[i];
-        i += 1;
+    if at < room.len() {
+        let n = bytes.len().min(room.len() - at);
+        room[at..at + n].copy_from_slice(&bytes[..n]);
     }
     at + bytes.len()
 }

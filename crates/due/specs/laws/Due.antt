@@ -1,5 +1,5 @@
 -- Laws of what is due. Assumes nothing.
-use Rattle.std.specs.Prelude.{◌≡◌, refl, true, false, cond, List, [], ◌∷◌, ◌++◌, ℕ, zero, suc, ◌+◌, ◌-◌, ◌≤◌, ◌<◌, min, leb, length, get_or, drop}
+use Rattle.std.specs.Prelude.{◌≡◌, refl, Some, None, true, false, cond, List, [], ◌∷◌, ◌++◌, ℕ, zero, suc, ◌+◌, ◌-◌, ◌≤◌, ◌<◌, min, leb, length, get_or, drop}
 use Rattle.std.proofs.Common.{sym, ◌∙◌, add-one, arith, le-leb, length-take, drop_of_length-le, drop-cons, get_or-take, get_or-drop}
 use Rattle.std.proofs.lemmas.Bool.{lt-leb}
 use Rattle.std.proofs.Math.Dec.{leb-zero, leb-suc-zero, leb-suc-suc}
@@ -34,7 +34,7 @@ module _ (l : Lineup) (k : ℕ) where
 
 -- ---- what is still due, by its first part
 
-before-expr : (m : ℕ) (ds : List Due) → 0 < m → before lead.None m ds ≡ due.Expr ∷ before lead.None (m - 1) ds
+before-expr : (m : ℕ) (ds : List Due) → 0 < m → before None m ds ≡ due.Expr ∷ before None (m - 1) ds
 before-expr zero ds h = absurd (omega arith)
 before-expr (suc m) ds h = let k : suc m - 1 ≡ m = omega arith in rw k
 
@@ -45,28 +45,28 @@ none-drop (suc k) [] = sym (leb-zero (suc k))
 none-drop (suc k) (d ∷ ds) = none-drop k ds ∙ sym (leb-suc-suc (length ds) k)
 
 module _ (l : Lineup) (p : Pending) where
-  pub pend-expr : p.lead ≡ lead.None → 0 < p.exprs → pending l p ≡ due.Expr ∷ before lead.None (p.exprs - 1) (drop p.own (dues l))
+  pub pend-expr : p.lead ≡ None → 0 < p.exprs → pending l p ≡ due.Expr ∷ before None (p.exprs - 1) (drop p.own (dues l))
   pend-expr e h = rw e (before-expr p.exprs (drop p.own (dues l)) h)
 
-  pub pend-own : p.lead ≡ lead.None → p.exprs ≤ 0 → pending l p ≡ drop p.own (dues l)
+  pub pend-own : p.lead ≡ None → p.exprs ≤ 0 → pending l p ≡ drop p.own (dues l)
   pend-own e h = let k : p.exprs ≡ 0 = omega arith in rw (e, k)
 
-  pub pend-role : p.lead ≡ lead.RoleUse → pending l p ≡ due.RoleUse ∷ before lead.None p.exprs (drop p.own (dues l))
+  pub pend-role : p.lead ≡ (Some lead.RoleUse) → pending l p ≡ due.RoleUse ∷ before None p.exprs (drop p.own (dues l))
   pend-role e = rw e
 
-  pub pend-least : p.lead ≡ lead.AtLeast → pending l p ≡ due.AtLeast ∷ before lead.RoleUse p.exprs (drop p.own (dues l))
+  pub pend-least : p.lead ≡ (Some lead.AtLeast) → pending l p ≡ due.AtLeast ∷ before (Some lead.RoleUse) p.exprs (drop p.own (dues l))
   pend-least e = rw e
 
-  pub pend-most : p.lead ≡ lead.AtMost → pending l p ≡ due.AtMost ∷ before lead.RoleUse p.exprs (drop p.own (dues l))
+  pub pend-most : p.lead ≡ (Some lead.AtMost) → pending l p ≡ due.AtMost ∷ before (Some lead.RoleUse) p.exprs (drop p.own (dues l))
   pend-most e = rw e
 
-  pub pend-item : p.lead ≡ lead.Item → pending l p ≡ due.Item ∷ before lead.None p.exprs (drop p.own (dues l))
+  pub pend-item : p.lead ≡ (Some lead.Item) → pending l p ≡ due.Item ∷ before None p.exprs (drop p.own (dues l))
   pend-item e = rw e
 
   pub none-some : {d : Due} {ds : List Due} → pending l p ≡ d ∷ ds → false ≡ none (pending l p)
   none-some q = rw q
 
-  module _ (e : p.lead ≡ lead.None) (h : p.exprs ≤ 0) where
+  module _ (e : p.lead ≡ None) (h : p.exprs ≤ 0) where
     pub none-far : lineup_limit ≤ p.own → true ≡ none (pending l p)
     none-far g = rw (pend-own e h, none-drop, length-take) (sym (le-leb (min l.count lineup_limit) p.own (omega arith)))
 
@@ -84,7 +84,7 @@ module _ (l : Lineup) (p : Pending) where
 -- ---- one field more
 
 -- a word of an expression, before m expressions
-before-wants : (o : Operator) (m own : ℕ) (l : Lineup) → pending l (opening o m own) ≡ wanted o ++ before lead.None m (drop own (dues l))
+before-wants : (o : Operator) (m own : ℕ) (l : Lineup) → pending l (opening o m own) ≡ wanted o ++ before None m (drop own (dues l))
 before-wants operator.And m own l = let k : m + 2 ≡ suc (suc m) = omega arith in rw k
 before-wants operator.Or m own l = let k : m + 2 ≡ suc (suc m) = omega arith in rw k
 before-wants operator.Not m own l = rw add-one
@@ -118,7 +118,7 @@ module _ (l : Lineup) (p : Pending) (o : Operator) (r : Pending) where
   step-plain q e h g = record { due = rw q (rw e); exprs = omega arith; own = omega arith }
 
   -- one for an expression that was opened before
-  pub step-expr : p.lead ≡ lead.None → 0 < p.exprs → r ≡ opening o (p.exprs - 1) p.own → Step l p o r
+  pub step-expr : p.lead ≡ None → 0 < p.exprs → r ≡ opening o (p.exprs - 1) p.own → Step l p o r
   step-expr e h q =
       record {
         due = rw (pend-expr l p e h) (rw q (before-wants o (p.exprs - 1) p.own l));
@@ -129,14 +129,14 @@ module _ (l : Lineup) (p : Pending) (o : Operator) (r : Pending) where
 -- one of the line-up's own
 module _ (l : Lineup) (own : ℕ) (o : Operator) (r : Pending) where
   abbrev own_pending : Pending
-  own_pending = record { lead = lead.None; exprs = 0; own = own }
+  own_pending = record { lead = None; exprs = 0; own = own }
 
   own-due : (es : List Due) → es ≡ cond (is_expr (get_or (dues l) own due.Nothing)) (wanted o) [] ++ drop (own + 1) (dues l) → Stepped (pending l own_pending) o es
   own-due es q =
       le-cases (length (dues l)) own (λ h. rw (drop_of_length-le (dues l) h) tt)
       (λ h. rw (drop-cons (dues l) own due.Nothing h) (q ∙ rw add-one))
 
-  pub step-own-plain : is_expr (get_or (dues l) own due.Nothing) ≡ false → r ≡ record { lead = lead.None; exprs = 0; own = own + 1 } → Step l own_pending o r
+  pub step-own-plain : is_expr (get_or (dues l) own due.Nothing) ≡ false → r ≡ record { lead = None; exprs = 0; own = own + 1 } → Step l own_pending o r
   step-own-plain e q = record { due = own-due (pending l r) (rw (e, q)); exprs = rw q (omega arith); own = rw q (omega arith) }
 
   pub step-own-expr : is_expr (get_or (dues l) own due.Nothing) ≡ true → r ≡ opening o 0 (own + 1) → Step l own_pending o r
@@ -147,5 +147,5 @@ module _ (l : Lineup) (own : ℕ) (o : Operator) (r : Pending) where
         own = rw q (omega (arith, (opening-bounds o 0 (own + 1)).1));
       }
 
-pub step-from-own : (l : Lineup) (p : Pending) (o : Operator) (r : Pending) → p.lead ≡ lead.None → p.exprs ≤ 0 → Step l (record { lead = lead.None; exprs = 0; own = p.own }) o r → Step l p o r
+pub step-from-own : (l : Lineup) (p : Pending) (o : Operator) (r : Pending) → p.lead ≡ None → p.exprs ≤ 0 → Step l (record { lead = None; exprs = 0; own = p.own }) o r → Step l p o r
 step-from-own l p o r e h s = record { due = rw (pend-own l p e h) s.due; exprs = omega (arith, s.exprs); own = s.own }

@@ -1,5 +1,5 @@
 -- The own records of what is still due along the fields of a line.
-use Rattle.std.specs.Prelude.{◌≡◌, cond, List, [], ◌∷◌, ◌++◌, ℕ, ◌+◌, ◌≤◌, drop, replicate}
+use Rattle.std.specs.Prelude.{◌≡◌, Option, Some, None, cond, List, [], ◌∷◌, ◌++◌, ℕ, ◌+◌, ◌≤◌, drop, replicate}
 use Rattle.field.specs.declared.Due.{Due}
 use Rattle.field.specs.declared.Due.TheVariants as due
 use Rattle.due.specs.declared.Lead.{Lead}
@@ -15,15 +15,15 @@ abbrev pub plenty : ℕ
 plenty = 1000000
 
 -- what the lead stands for
-abbrev pub leading : Lead → List Due
-leading lead.None = []
-leading lead.RoleUse = due.RoleUse ∷ []
-leading lead.AtLeast = due.AtLeast ∷ due.RoleUse ∷ []
-leading lead.AtMost = due.AtMost ∷ due.RoleUse ∷ []
-leading lead.Item = due.Item ∷ []
+abbrev pub leading : Option Lead → List Due
+leading None = []
+leading (Some lead.RoleUse) = due.RoleUse ∷ []
+leading (Some lead.AtLeast) = due.AtLeast ∷ due.RoleUse ∷ []
+leading (Some lead.AtMost) = due.AtMost ∷ due.RoleUse ∷ []
+leading (Some lead.Item) = due.Item ∷ []
 
 -- a lead and m expressions before what else is due
-abbrev pub before : Lead → ℕ → List Due → List Due
+abbrev pub before : Option Lead → ℕ → List Due → List Due
 before d m ds = leading d ++ (replicate m due.Expr ++ ds)
 
 -- what is still due
@@ -37,18 +37,18 @@ Stepped (d ∷ ds) o es = es ≡ cond (is_expr d) (wanted o) [] ++ ds
 
 -- what is still due after a word of an expression, where m expressions were due after that one
 abbrev pub opening : Operator → ℕ → ℕ → Pending
-opening operator.And m own = record { lead = lead.None; exprs = m + 2; own = own }
-opening operator.Or m own = record { lead = lead.None; exprs = m + 2; own = own }
-opening operator.Not m own = record { lead = lead.None; exprs = m + 1; own = own }
-opening operator.Some m own = record { lead = lead.RoleUse; exprs = m + 1; own = own }
-opening operator.All m own = record { lead = lead.RoleUse; exprs = m + 1; own = own }
-opening operator.AtLeast m own = record { lead = lead.AtLeast; exprs = m + 1; own = own }
-opening operator.AtMost m own = record { lead = lead.AtMost; exprs = m + 1; own = own }
-opening operator.SelfOf m own = record { lead = lead.RoleUse; exprs = m; own = own }
-opening operator.One m own = record { lead = lead.Item; exprs = m; own = own }
-opening operator.Top m own = record { lead = lead.None; exprs = m; own = own }
-opening operator.Bot m own = record { lead = lead.None; exprs = m; own = own }
-opening operator.None m own = record { lead = lead.None; exprs = m; own = own }
+opening operator.And m own = record { lead = None; exprs = m + 2; own = own }
+opening operator.Or m own = record { lead = None; exprs = m + 2; own = own }
+opening operator.Not m own = record { lead = None; exprs = m + 1; own = own }
+opening operator.Some m own = record { lead = Some lead.RoleUse; exprs = m + 1; own = own }
+opening operator.All m own = record { lead = Some lead.RoleUse; exprs = m + 1; own = own }
+opening operator.AtLeast m own = record { lead = Some lead.AtLeast; exprs = m + 1; own = own }
+opening operator.AtMost m own = record { lead = Some lead.AtMost; exprs = m + 1; own = own }
+opening operator.SelfOf m own = record { lead = Some lead.RoleUse; exprs = m; own = own }
+opening operator.One m own = record { lead = Some lead.Item; exprs = m; own = own }
+opening operator.Top m own = record { lead = None; exprs = m; own = own }
+opening operator.Bot m own = record { lead = None; exprs = m; own = own }
+opening operator.None m own = record { lead = None; exprs = m; own = own }
 
 -- one field more, with the word o: what is still due after it, and bounds
 pub record Step (l : Lineup) (p : Pending) (o : Operator) (r : Pending) : Type 0 where

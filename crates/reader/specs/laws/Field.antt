@@ -1,11 +1,10 @@
 -- Laws of fields by their place. Assumes nothing.
-use Rattle.std.specs.Prelude.{◌≡◌, ℕ, ◌+◌, ◌-◌, ◌<◌, ◌≤◌, List, [], ◌∷◌, length}
-use Rattle.std.proofs.Common.{◌∙◌, arith, le-leb}
+use Rattle.std.specs.Prelude.{Option, Some, None, ◌≡◌, ℕ, ◌+◌, ◌-◌, ◌<◌, ◌≤◌, List, [], ◌∷◌, length}
+use Rattle.std.proofs.Common.{sym, ap, ◌∙◌, arith, le-leb}
 use Rattle.std.proofs.lemmas.Bool.{lt-leb}
 use Rattle.text.specs.own.Split.{part_of, parts_from, end_of}
 use Rattle.text.specs.laws.Split.{parts_next, parts_none}
 use Rattle.text.specs.laws.Choice.{le-cases}
-use Rattle.reader.specs.declared.line.Next.TheVariants.{At, End}
 use Rattle.reader.specs.own.Field.{field_at, field_from, past_field}
 
 module _ (line : List ℕ) (at : ℕ) where
@@ -16,19 +15,28 @@ module _ (line : List ℕ) (at : ℕ) where
   pub fields-none : length line < at → parts_from 9 line at ≡ []
   fields-none h = parts_none 9 line at h
 
+-- the two numbers of a pair that is there
+abbrev start_in : Option (ℕ × ℕ) → ℕ
+start_in None = 0
+start_in (Some p) = p.0
+
+abbrev end_in : Option (ℕ × ℕ) → ℕ
+end_in None = 0
+end_in (Some p) = p.1
+
 -- what a reader told
-pub field_told : (line : List ℕ) (at a e : ℕ) → field_at line at ≡ At a e → (a ≡ at) × (e ≡ end_of 9 line at) × (at ≤ length line)
+pub field_told : (line : List ℕ) (at a e : ℕ) → field_at line at ≡ Some (a, e) → (a ≡ at) × (e ≡ end_of 9 line at) × (at ≤ length line)
 unfolding field_at
 field_told line at a e q =
     le-cases at (length line)
-    (λ h. let z : At at (end_of 9 line at) ≡ At a e = rw (le-leb _ _ h) at q in (cc, cc, h))
-    (λ h. let z : End ≡ At a e = rw (lt-leb _ _ h) at q in let n : ◌≡◌ {A = ℕ} 0 1 = cc in absurd (omega arith))
+    (λ h. let z : Some (at, end_of 9 line at) ≡ Some (a, e) = rw (le-leb _ _ h) at q in (ap start_in (sym z), ap end_in (sym z), h))
+    (λ h. let z : None ≡ Some (a, e) = rw (lt-leb _ _ h) at q in let n : ◌≡◌ {A = ℕ} 0 1 = cc in absurd (omega arith))
 
-pub field-ended : (line : List ℕ) (at : ℕ) → field_at line at ≡ End → length line < at
+pub field-ended : (line : List ℕ) (at : ℕ) → field_at line at ≡ None → length line < at
 unfolding field_at
 field-ended line at q =
     le-cases at (length line)
-    (λ h. let z : At at (end_of 9 line at) ≡ End = rw (le-leb _ _ h) at q in let n : ◌≡◌ {A = ℕ} 0 1 = cc in absurd (omega arith))
+    (λ h. let z : Some (at, end_of 9 line at) ≡ None = rw (le-leb _ _ h) at q in let n : ◌≡◌ {A = ℕ} 0 1 = cc in absurd (omega arith))
     (λ h. h)
 
 -- the field and the place past it, where there is one and where there is none

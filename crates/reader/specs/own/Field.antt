@@ -1,12 +1,10 @@
 -- The field at a place of a line, and the place past it.
-use Rattle.std.specs.Prelude.{ℕ, ◌+◌, ◌-◌, cond, List, [], length, nat_le}
+use Rattle.std.specs.Prelude.{Option, Some, None, ℕ, ◌+◌, ◌-◌, cond, List, [], length, nat_le}
 use Rattle.text.specs.own.Split.{part_of, end_of}
-use Rattle.reader.specs.declared.line.Next.{Next}
-use Rattle.reader.specs.declared.line.Next.TheVariants.{At, End}
 
--- the field at a place of a line
-unfoldable pub field_at : List ℕ → ℕ → Next
-field_at line at = cond (nat_le at (length line)) (At at (end_of 9 line at)) End
+-- the field at a place of a line, from its start to its end
+unfoldable pub field_at : List ℕ → ℕ → Option (ℕ × ℕ)
+field_at line at = cond (nat_le at (length line)) (Some (at, end_of 9 line at)) None
 
 -- its bytes
 unfoldable pub field_from : List ℕ → ℕ → List ℕ

@@ -1,8 +1,9 @@
 -- Laws of tests over bytes, of comparing and of looking up. Assumes nothing.
-use Rattle.std.specs.Prelude.{◌≡◌, refl, Bool, true, false, List, [], ◌∷◌, map, ℕ, zero, suc, ◌+◌, ◌-◌, ◌<◌, ◌≤◌, eqb, leb, length, get_or, take, drop}
+use Rattle.std.specs.Prelude.{◌≡◌, refl, Bool, true, false, cond, ◌&&◌, List, [], ◌∷◌, map, ℕ, zero, suc, ◌+◌, ◌-◌, ◌<◌, ◌≤◌, eqb, leb, length, get_or, take, drop}
 use Rattle.std.proofs.Common.{sym, ◌∙◌, ap, true≢false, add-one, arith, eq-eqb, leb-true, ne_eqb, drop_of_length-le, length-drop, take_all}
 use Rattle.std.proofs.Math.Decide.{ℕ_discrete}
 use Rattle.std.proofs.Math.Seq.{drop-cons, take-nil}
+use Rattle.std.specs.List.{list_all}
 use Rattle.text.specs.Bytes.{between, every, same, place}
 use Rattle.text.specs.own.Split.{part_of}
 use Rattle.text.specs.laws.Choice.{cond_both, cond-true}
@@ -33,6 +34,16 @@ unfolding every
 every-at p [] i z e = z
 every-at p (b ∷ s) zero z e = (cond-true (p b) (every p s) e).0
 every-at p (b ∷ s) (suc i) z e = every-at p s i z (cond-true (p b) (every p s) e).1
+
+-- the same as std's word
+pub every_all : (p : ℕ → Bool) (s : List ℕ) → every p s ≡ list_all p s
+unfolding every
+every_all p [] = refl
+every_all p (b ∷ s) = rw (every_all p s) (both (p b) (list_all p s))
+  where
+    both : (x y : Bool) → cond x y false ≡ (x && y)
+    both true y = refl
+    both false y = refl
 
 -- ---- comparing
 

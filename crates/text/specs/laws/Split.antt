@@ -1,7 +1,7 @@
 -- Laws of the cut, from a place of the list on. Assumes nothing.
 use Rattle.std.specs.Prelude.{◌≡◌, Bool, eqb, length, get_or}
 use Rattle.std.proofs.Math.Path.{refl}
-use Rattle.std.proofs.Common.{◌∙◌, add-one, drop_of_length-le}
+use Rattle.std.proofs.Common.{sym, ap, ◌∙◌, add-one, drop_of_length-le}
 use Rattle.std.proofs.Math.Bool.{true, false, cond}
 use mathlib.Core.List.{List, [], ◌∷◌}
 use Prim.Native.Nat.{ℕ, zero, suc, ◌+◌, ◌-◌, ◌<◌, ◌≤◌, zero-le, suc-le-suc}
@@ -10,6 +10,9 @@ use borrow.Author.Tests.{lt-ltb, ltb-true, eq-eqb, ne_eqb, le-leb, lt-leb, leb-t
 use Rattle.std.proofs.Math.Dec.{leb, ltb, leb-suc-suc, leb-zero}
 use Rattle.std.proofs.Math.ListN.{take, drop, length-drop}
 use Rattle.std.proofs.Math.Seq.{drop-cons, drop-drop}
+use Rattle.std.specs.List.{count_by}
+use Rattle.std.proofs.lemmas.List.Sums.{sum_by-cons}
+use Rattle.std.specs.Prelude.{◌==◌}
 use Rattle.text.specs.own.Split.{part_of, upto, parts_from, end_of}
 use Rattle.text.specs.Bytes.{place, same}
 use Rattle.text.specs.Split.{split, onto}
@@ -95,6 +98,16 @@ module _ (t : ℕ) (s : List ℕ) (i : ℕ) where
   pub count-out : length s ≤ i → length (split t (drop i s)) ≡ 1
   unfolding split
   count-out h = rw (drop_of_length-le s h)
+
+-- one more than there are bytes t
+pub split_count : (t : ℕ) (s : List ℕ) → length (split t s) ≡ count_by (λ b. b == t) s + 1
+unfolding split
+split_count t [] = refl
+split_count t (b ∷ s) = at (eqb b t) (split_count t s) ∙ ap (λ (n : ℕ). n + 1) (sym (sum_by-cons (λ x. cond (x == t) 1 0) b s))
+  where
+    at : (e : Bool) → length (split t s) ≡ count_by (λ x. x == t) s + 1 → length (cond e ([] ∷ split t s) (onto b (split t s))) ≡ cond e 1 0 + count_by (λ x. x == t) s + 1
+    at true h = omega arith
+    at false h = omega (arith, onto-length t s 0 b s)
 
 -- one more than there are bytes, at the most
 pub split-few : (t : ℕ) (s : List ℕ) → length (split t s) ≤ length s + 1

@@ -1,7 +1,8 @@
 -- Laws of written text and of decimal numbers. Assumes nothing.
-use Rattle.std.specs.Prelude.{◌≡◌, refl, Bool, true, false, cond, List, [], ◌∷◌, ◌++◌, ℕ, zero, suc, min, ◌+◌, ◌-◌, ◌*◌, ◌/◌, ◌%◌, ◌<◌, ◌≤◌, ◌^◌, ltb, length, set, get_or, take, drop}
-use Rattle.std.proofs.Common.{ap₂, ◌∙◌, zero-le, pow-suc, lt_of_lt_of_le, add-one, arith, lt-ltb, le-ltb, ltb-false, lit≤, length-append, drop_of_length-le, drop-cons}
-use Rattle.std.proofs.lemmas.List.Edits.{sets, sets-eq}
+use Rattle.std.specs.Prelude.{◌≡◌, refl, Bool, true, false, cond, List, [], ◌∷◌, ◌++◌, ℕ, zero, suc, min, ◌+◌, ◌-◌, ◌*◌, ◌/◌, ◌%◌, ◌<◌, ◌≤◌, ◌^◌, ltb, length, take, drop, get_or, set}
+use Rattle.std.proofs.Common.{add-one, drop-cons, sym, ap, length-take-le, take-append-drop, append_assoc, ap₂, ◌∙◌, zero-le, pow-suc, lt_of_lt_of_le, arith, lt-ltb, le-ltb, ltb-false, lit≤, length-append, drop_of_length-le}
+use Rattle.std.proofs.lemmas.List.Edits.{sets, sets-eq, length-paste}
+use lib.Seq.{paste}
 use Rattle.std.proofs.Math.Seq.{set_out, take-append_seam}
 use Rattle.logic.specs.laws.Sets.{sets-append}
 use Rattle.text.specs.Text.{digits, decimal, Wrote}
@@ -16,7 +17,7 @@ wrote_then {room} {mid} {exit} {t} {u} {at} {p} {r} f g =
     }
 
 -- what stands past the end of the room is not written
-sets-past : (src l : List ℕ) (i : ℕ) → length l ≤ i → sets l i src ≡ l
+pub sets-past : (src l : List ℕ) (i : ℕ) → length l ≤ i → sets l i src ≡ l
 sets-past [] l i h = refl
 sets-past (b ∷ src) l i h = rw (set_out l i b h) (sets-past src l (suc i) (omega arith))
 
@@ -32,6 +33,15 @@ module _ (l src : List ℕ) (at i : ℕ) where
   sets-on h =
       let k : suc (at + i) ≡ at + (i + 1) = omega arith in
       rw (drop-cons src i 0) (rw (← k, add-one))
+
+-- as much as has place was copied
+pub sets-copied : (l src : List ℕ) (at n : ℕ) → at ≤ length l → n ≡ min (length src) (length l - at) → sets l at src ≡ take at l ++ (take n src ++ drop (at + n) l)
+sets-copied l src at n h e =
+    let short : n ≤ length src = omega arith in
+    let k : length (take n src) ≡ n = length-take-le n src short in
+    let m : sets l at (take n src) ≡ paste l at src n = sets-eq (take n src) l at (omega arith) ∙ rw k in
+    let len : length (paste l at src n) ≡ length l = length-paste l at src n (omega arith) short in
+    ap (sets l at) (sym (take-append-drop n src)) ∙ sets-append l at (take n src) (drop n src) ∙ rw (m, k) (sets-done (paste l at src n) src at n (rw len e)) ∙ append_assoc (take at l) (take n src) (drop (at + n) l)
 
 -- enough is enough
 pub digits-enough : (f g n : ℕ) → n < f → n < g → digits f n ≡ digits g n

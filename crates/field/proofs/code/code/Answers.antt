@@ -1,14 +1,15 @@
 -- `field::code::code` meets its contract. Assumes nothing.
-use mathlib.Core.Path.{◌∙◌}
+use Rattle.std.proofs.Common.{arith}
+use Rattle.text.specs.laws.Chunk.{low-four}
 use Rattle.field.specs.laws.Code.{code-long, code-short, number-four}
-use native.Mathlib.Omega.{arith}
 use Rattle.field.proofs.code.code.Goals as goal
 
-pub returns-then-n-lt4 : goal.returns-then-n-lt4
-returns-then-n-lt4 c = c.few.ensures.0 ∙ code-short _ (omega arith)
+pub returns-in-0-to-3 : goal.returns-in-0-to-3
+returns-in-0-to-3 c = omega (arith, code-short c.args.f.now (omega arith))
 
-pub returns-then-n-gt7 : goal.returns-then-n-gt7
-returns-then-n-gt7 c = code-long _ (omega arith)
+pub returns-in-4-to-7 : goal.returns-in-4-to-7
+returns-in-4-to-7 c = let f = c.args.f.now in
+    omega (arith, code-short f (omega arith), low-four f 0 (omega arith), number-four f (omega arith) _ c.few-in-4-to-7.ensures.0)
 
-pub returns : goal.returns
-returns c = let f = c.args.f.now in omega (arith, code-short f (omega arith), number-four f (omega arith) _ c.few-2.ensures.0)
+pub returns-in_default : goal.returns-in_default
+returns-in_default c = code-long _ (omega arith)

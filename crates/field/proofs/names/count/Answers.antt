@@ -1,7 +1,7 @@
 -- `field::names::count` meets its contract. Assumes nothing.
-use native.Mathlib.Omega.{arith}
+use Rattle.std.proofs.Common.{arith}
 use Rattle.field.specs.laws.Names.{count_none}
 use Rattle.field.proofs.names.count.Goals as goal
 
-pub returns : goal.returns
-returns c = (count_none c.args.f.now c.if-f-gt0.false, omega arith)
+pub returns-in-empty : goal.returns-in-empty
+returns-in-empty c = (count_none c.args.f.now (omega arith), omega arith)

@@ -1,6 +1,6 @@
 -- `field::names::key` meets its contract. Assumes nothing.
+use Rattle.std.proofs.Common.{arith}
 use Rattle.field.specs.laws.Tag.{key-long, key-short}
-use native.Mathlib.Omega.{arith}
 use Rattle.field.proofs.names.key.Goals as goal
 
 pub returns-then-n-ge4 : goal.returns-then-n-ge4

@@ -1,5 +1,5 @@
 -- `field::words::reserved` meets its contract. Assumes nothing.
-use mathlib.Core.Path.{ap, ◌∙◌}
+use Rattle.std.proofs.Common.{ap, ◌∙◌}
 use Rattle.field.specs.own.Code.{is_word}
 use Rattle.field.specs.laws.Words.{word-reserved}
 use Rattle.field.proofs.words.reserved.Goals as goal

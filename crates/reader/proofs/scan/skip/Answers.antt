@@ -20,14 +20,6 @@ overflow_add-result c = omega (arith, trailing_le 64 c.mask-m.result)
 pub returns-else-m-eq0 : goal.returns-else-m-eq0
 returns-else-m-eq0 c = skip-word c.eight.result _ c.loop-i.invariant (λ i. (c.type_inv.text i).fits) (omega arith) c.eight.ensures (c.mask-m.ensures.some c.if-m-eq0.false)
 
-pub skip_one-requires : goal.skip_one-requires
-skip_one-requires c = c.loop-i.invariant
-
-pub returns-then-text-ge8 : goal.returns-then-text-ge8
-returns-then-text-ge8 c = c.skip_one.ensures
-
 pub skip_one-requires-2 : goal.skip_one-requires-2
 skip_one-requires-2 c = skip-none _ _ c.requires
 
-pub returns : goal.returns
-returns c = c.skip_one-2.ensures

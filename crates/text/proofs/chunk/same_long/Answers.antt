@@ -1,8 +1,5 @@
 -- `text::chunk::same_long` meets its contract. Assumes nothing.
-use mathlib.Core.Path.{sym, ◌∙◌}
-use Prim.Native.Nat.{◌-◌}
-use native.Mathlib.Omega.{arith}
-use lib.ListN.{length}
+use Rattle.std.proofs.Common.{◌-◌, length, sym, ◌∙◌, arith}
 use Rattle.text.specs.laws.Chunk.{agree-all, agree_less, agree-none, chunk-off, chunk-on}
 use Rattle.text.proofs.chunk.same_long.Goals as goal
 
@@ -22,15 +19,11 @@ returns-then-eight-2 c = let x = c.args in
 pub loop-i-preserved : goal.loop-i-preserved
 loop-i-preserved c = let x = c.args in
     let q = c.requires in
-    let bt = c.shared_slice_known-1 in
-    let bw = c.shared_slice_known-2-1 in
-    (omega arith, chunk-on x.text.now x.start x.w.now q.0 _ 8 (omega arith) (λ i. (bt.given i).fits) (λ i. (bw.given i).fits) (sym c.eight-in-loop-i.ensures ∙ c.if-eight-2.false ∙ c.eight-in-loop-i-2.ensures) c.loop-i.invariant.1)
+    (omega arith, chunk-on x.text.now x.start x.w.now q.0 _ 8 (omega arith) (λ i. (c.type_inv.text i).fits) (λ i. (c.type_inv.w i).fits) (sym c.eight-in-loop-i.ensures ∙ c.if-eight-2.false ∙ c.eight-in-loop-i-2.ensures) c.loop-i.invariant.1)
 
 pub returns : goal.returns
 returns c = let x = c.args in
     let q = c.requires in
-    let bt = c.shared_slice_known-1 in
-    let bw = c.shared_slice_known-2-1 in
     let less = agree_less x.text.now x.start x.w.now _ (length x.w.now - 8) (omega arith) c.loop-i.invariant.1 in
-    let all = chunk-on x.text.now x.start x.w.now q.0 (length x.w.now - 8) 8 (omega arith) (λ i. (bt.given i).fits) (λ i. (bw.given i).fits) (sym c.eight.ensures ∙ c.if-eight.false ∙ c.eight-2.ensures) less in
+    let all = chunk-on x.text.now x.start x.w.now q.0 (length x.w.now - 8) 8 (omega arith) (λ i. (c.type_inv.text i).fits) (λ i. (c.type_inv.w i).fits) (sym c.eight.ensures ∙ c.if-eight.false ∙ c.eight-2.ensures) less in
     agree-all x.text.now x.start x.w.now q.0 _ (omega arith) all

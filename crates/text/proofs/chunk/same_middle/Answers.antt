@@ -1,28 +1,27 @@
 -- `text::chunk::same_middle` meets its contract. Assumes nothing.
-use mathlib.Core.Path.{sym, ◌∙◌}
-use Prim.Native.Nat.{◌-◌}
-use native.Mathlib.Omega.{arith}
-use lib.ListN.{length}
+use Rattle.std.proofs.Common.{◌≡◌, ◌-◌, eqb, length, sym, ◌∙◌, arith, eq-eqb, ne_eqb}
+use Rattle.std.proofs.Math.Decide.{ℕ_discrete}
+use Rattle.text.specs.Bytes.{same}
+use Rattle.text.specs.own.Split.{part_of}
 use Rattle.text.specs.laws.Chunk.{agree-all, agree_less, agree-none, at_zero, chunk-off, chunk-on}
 use Rattle.text.proofs.chunk.same_middle.Goals as goal
 
 pub returns-then-four : goal.returns-then-four
-returns-then-four c = let x = c.args in
-    let q = c.requires in
-    chunk-off x.text.now x.start x.w.now q.0 _ 4 (omega arith) (λ e. c.if-four.true (c.four.ensures.0 ∙ e ∙ sym c.four-2.ensures.0))
+returns-then-four c = go (ℕ_discrete c.four-then-four.result c.four-then-four-2.result)
+  where
+    go : Dec (c.four-then-four.result ≡ c.four-then-four-2.result) → eqb c.four-then-four.result c.four-then-four-2.result ≡ same c.args.w.now (part_of c.args.text.now c.args.start (length c.args.w.now))
+    go (yes e) =
+        let x = c.args in
+        let q = c.requires in
+        let none = agree-none x.text.now x.start x.w.now in
+        let one = chunk-on x.text.now x.start x.w.now q.0 0 4 (omega arith) (λ i. (c.type_inv.text i).fits) (λ i. (c.type_inv.w i).fits) (sym (at_zero x.text.now x.start 4) ∙ sym c.four-then-four.ensures.0 ∙ e ∙ c.four-then-four-2.ensures.0) none in
+        let less = agree_less x.text.now x.start x.w.now 4 (length x.w.now - 4) (omega arith) one in
+        let two = chunk-on x.text.now x.start x.w.now q.0 (length x.w.now - 4) 4 (omega arith) (λ i. (c.type_inv.text i).fits) (λ i. (c.type_inv.w i).fits) (sym c.four.ensures.0 ∙ c.if-four.true ∙ c.four-2.ensures.0) less in
+        rw (eq-eqb _ _ e) (agree-all x.text.now x.start x.w.now q.0 _ (omega arith) two)
+    go (no n) =
+        let x = c.args in
+        rw (ne_eqb _ _ n) (chunk-off x.text.now x.start x.w.now c.requires.0 0 4 (omega arith) (λ e. n (c.four-then-four.ensures.0 ∙ at_zero x.text.now x.start 4 ∙ e ∙ sym c.four-then-four-2.ensures.0)))
 
-pub returns-then-four-2 : goal.returns-then-four-2
-returns-then-four-2 c = let x = c.args in
-    let q = c.requires in
-    chunk-off x.text.now x.start x.w.now q.0 0 4 (omega arith) (λ e. c.if-four-2.true (c.four-3.ensures.0 ∙ at_zero x.text.now x.start 4 ∙ e ∙ sym c.four-4.ensures.0))
-
-pub returns : goal.returns
-returns c = let x = c.args in
-    let q = c.requires in
-    let bt = c.shared_slice_known-1 in
-    let bw = c.shared_slice_known-2-1 in
-    let none = agree-none x.text.now x.start x.w.now in
-    let one = chunk-on x.text.now x.start x.w.now q.0 0 4 (omega arith) (λ i. (bt.given i).fits) (λ i. (bw.given i).fits) (sym (at_zero x.text.now x.start 4) ∙ sym c.four-3.ensures.0 ∙ c.if-four-2.false ∙ c.four-4.ensures.0) none in
-    let less = agree_less x.text.now x.start x.w.now 4 (length x.w.now - 4) (omega arith) one in
-    let two = chunk-on x.text.now x.start x.w.now q.0 (length x.w.now - 4) 4 (omega arith) (λ i. (bt.given i).fits) (λ i. (bw.given i).fits) (sym c.four.ensures.0 ∙ c.if-four.false ∙ c.four-2.ensures.0) less in
-    agree-all x.text.now x.start x.w.now q.0 _ (omega arith) two
+pub returns-else-four : goal.returns-else-four
+returns-else-four c = let x = c.args in
+    rw (ne_eqb _ _ c.if-four.false) (chunk-off x.text.now x.start x.w.now c.requires.0 _ 4 (omega arith) (λ e. c.if-four.false (c.four.ensures.0 ∙ e ∙ sym c.four-2.ensures.0)))

@@ -1,7 +1,7 @@
 -- `text::part::end_of` meets its contract. Assumes nothing.
-use mathlib.Core.Path.{sym, ◌∙◌}
-use native.Mathlib.Omega.{arith}
+use Rattle.std.proofs.Common.{sym, ◌∙◌, length, arith}
 use Rattle.text.specs.laws.Split.{end-out, end-here, end_on}
+use Rattle.text.specs.laws.Choice.{le-cases}
 use Rattle.text.proofs.part.end_of.Goals as goal
 
 pub returns-then-s-i : goal.returns-then-s-i
@@ -13,4 +13,8 @@ loop-i-preserved c = let w = c.loop-i in
     w.invariant ∙ end_on _ _ w.i (omega arith) c.if-s-i.false
 
 pub returns : goal.returns
-returns c = sym (c.loop-i.invariant ∙ end-out _ _ c.loop-i.i (omega arith))
+returns c = let w = c.loop-i in
+    let x = c.args in
+    le-cases x.at (length x.s.now)
+    (λ h. omega (arith, w.invariant, end-out x.t x.s.now w.i (omega arith), w.auto.i-end h, c.max.ensures))
+    (λ h. omega (arith, end-out x.t x.s.now x.at (omega arith), c.max.ensures))
