@@ -47,7 +47,7 @@ fn stated(known: &Known, m: Marks, fields: &Fields) -> Option<Statement>
     if m.rules != 0 {
         return None;
     }
-    match field::words::form(fields.line, fields.ends) {
+    match field::words::form(fields) {
         Form::Statement(w) => named(known, fields, w),
         _ => None,
     }

@@ -14,7 +14,7 @@ fn rule_in(known: &Known, fields: &Fields, number: usize, past: usize) -> Option
     requires { RuleIfReady fields.now.line.now }
     ensures { result ≡ line_rule (names_in known.now) (form_of (fields_in fields.now)) (body_of (fields_in fields.now)) number past }
 {
-    match field::words::form(fields.line, fields.ends) {
+    match field::words::form(fields) {
         Form::Rule(w) => Some(RuleLine {
             line: number,
             past,

@@ -76,7 +76,7 @@ fn take_form(
 {
     let mut counts = k.counts;
     let marks = k.marks;
-    match field::words::form(fields.line, fields.ends) {
+    match field::words::form(fields) {
         Form::Concept => {
             declare(names, Table::CONCEPTS, counts.concepts, start, fields);
             counts.concepts += 1;
@@ -139,7 +139,7 @@ pub fn read(
         let kept = add(words, at, k, s);
         return LineRead { why: 0, kept };
     }
-    let why = line::lines::line_fault(sheet, names, k.counts, k.marks, line, good, ends);
+    let why = line::lines::line_fault(&known, k.marks, line, good, ends);
     if why == 0 {
         let kept = take(words, at, names, k, start, &Fields { line, ends });
         return LineRead { why, kept };

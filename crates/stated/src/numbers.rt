@@ -22,21 +22,21 @@ pub fn nth<'a>(fields: &Fields<'a>, k: usize) -> &'a [u8]
 pub fn concept(known: &Known, fields: &Fields, k: usize) -> Concept
     ensures { result ≡ concept_of (names_in known.now) (field_of k (fields_in fields.now)) }
 {
-    Concept(field::names::concept(known.sheet, known.numbers, known.counts, nth(fields, k)))
+    Concept(known.concept(nth(fields, k)))
 }
 
 // The role that the field with the number k names.
 pub fn role(known: &Known, fields: &Fields, k: usize) -> Role
     ensures { result ≡ role_of (names_in known.now) (field_of k (fields_in fields.now)) }
 {
-    Role(field::names::role(known.sheet, known.numbers, known.counts, nth(fields, k)))
+    Role(known.role(nth(fields, k)))
 }
 
 // The item that the field with the number k names.
 pub fn item(known: &Known, fields: &Fields, k: usize) -> Item
     ensures { result ≡ item_of (names_in known.now) (field_of k (fields_in fields.now)) }
 {
-    Item(field::names::item(known.sheet, known.numbers, known.counts, nth(fields, k)))
+    Item(known.item(nth(fields, k)))
 }
 
 // The role or inverse that the field with the number k names.
@@ -44,8 +44,8 @@ pub fn role_use(known: &Known, fields: &Fields, k: usize) -> RoleUse
     ensures { result ≡ role_use_of (names_in known.now) (field_of k (fields_in fields.now)) }
 {
     let f = nth(fields, k);
-    let inverse = field::names::inverted(f);
-    let name = field::names::plain(f);
-    let role = Role(field::names::role(known.sheet, known.numbers, known.counts, name));
-    RoleUse { role, inverse }
+    RoleUse {
+        role: Role(known.role(field::names::plain(f))),
+        inverse: field::names::inverted(f),
+    }
 }
