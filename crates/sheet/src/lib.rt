@@ -73,7 +73,8 @@ pub struct Whole {
     pub start: Start,
 }
 
-// Reads a sheet into a lent store, with N numbers for its names.
+// Reads a sheet into a lent store, with N numbers for its names; it stays a call, so that the larger numbers take no room where the smaller suffice.
+#[inline(never)]
 fn read_with<const N: usize>(sheet: &[u8], words: &mut [u64]) -> Reading
     requires { (number_count (width_of words.old) ≤ N) × (N ≤ number_count large) }
     ensures { Reads sheet.now words.old words.new result }

@@ -1,8 +1,6 @@
 -- The lines whose names are all declared, of which there are as many as there must be, are the statements with nothing wrong. Assumes nothing.
 use Rattle.std.specs.Prelude.{◌≡◌, true, false, not, List, [], ◌∷◌, ℕ, ◌+◌, ◌≤◌, ◌<◌, drop, length, Option, Some, None}
-use Rattle.std.proofs.Math.Path.{refl}
-use Rattle.std.proofs.Common.{sym, ◌∙◌, subst, true≢false, arith, length-drop}
-use borrow.Author.Tests.{le-ltb, lt-ltb, ltb-false}
+use Rattle.std.proofs.Common.{refl, sym, ◌∙◌, subst, true≢false, arith, length-drop, le-ltb, lt-ltb, ltb-false}
 use Rattle.text.specs.Bytes.{every, place}
 use Rattle.text.specs.Name.{is_name, line_byte}
 use Rattle.text.specs.Split.{fields}

@@ -1,10 +1,6 @@
 -- An accepted rule line says a rule that is well formed, with its numbers below their counts. Assumes nothing.
 use Rattle.std.specs.Prelude.{◌≡◌, false, drop, length}
-use Rattle.std.proofs.Math.Path.{refl}
-use Rattle.std.proofs.Common.{sym, true≢false, length-append}
-use mathlib.Core.List.{List, [], ◌∷◌, ◌++◌}
-use Prim.Native.Nat.{ℕ, suc, ◌+◌, ◌≤◌, ◌<◌, max, min}
-use native.Mathlib.Omega.{arith}
+use Rattle.std.proofs.Common.{refl, sym, true≢false, length-append, List, [], ◌∷◌, ◌++◌, ℕ, suc, ◌+◌, ◌≤◌, ◌<◌, max, min, arith}
 use Rattle.text.specs.Bytes.{place}
 use Rattle.store.specs.declared.Counts.{Counts}
 use Rattle.store.specs.declared.Item.{Item}

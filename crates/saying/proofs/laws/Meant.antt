@@ -1,10 +1,6 @@
 -- The rule that a line says means what the line's fields mean: its nodes, read back, are the expressions that were read. Assumes nothing.
 use Rattle.std.specs.Prelude.{◌≡◌, true, length}
-use Rattle.std.proofs.Math.Path.{refl}
-use Rattle.std.proofs.Common.{sym, ap, ap₂, true≢false, length-append}
-use mathlib.Core.List.{List, [], ◌∷◌, ◌++◌}
-use Prim.Native.Nat.{ℕ, zero, suc, ◌+◌, ◌≤◌, max, min}
-use native.Mathlib.Omega.{arith}
+use Rattle.std.proofs.Common.{refl, sym, ap, ap₂, true≢false, length-append, List, [], ◌∷◌, ◌++◌, ℕ, zero, suc, ◌+◌, ◌≤◌, max, min, arith}
 use Rattle.store.specs.declared.Item.{Item}
 use Rattle.rule.specs.declared.Head.TheVariants as head
 use Rattle.rule.specs.declared.Node.{Node}

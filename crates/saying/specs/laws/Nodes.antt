@@ -1,11 +1,6 @@
 -- Laws of writing an expression's nodes word by word. Assumes nothing.
 use Rattle.std.specs.Prelude.{◌≡◌, map, ℕ, zero, suc, ◌+◌, ◌<◌, drop, set}
-use Rattle.std.proofs.Math.Path.{refl}
-use Rattle.std.proofs.Common.{sym, ◌∙◌, ap, add-zero, set-set}
-use mathlib.Core.List.{List, [], ◌∷◌, ◌++◌, append_assoc}
-use Rattle.std.proofs.Math.Numerals.{add-one}
-use native.Mathlib.Omega.{arith}
-use Rattle.std.proofs.Math.ListN.{length, length-append}
+use Rattle.std.proofs.Common.{refl, sym, ◌∙◌, ap, add-zero, set-set, List, [], ◌∷◌, ◌++◌, append_assoc, add-one, arith, length, length-append}
 use Rattle.std.proofs.lemmas.List.{length-map, map-append, set_comm}
 use Rattle.std.proofs.lemmas.List.Edits.{sets}
 use Rattle.logic.specs.laws.Sets.{sets-append}

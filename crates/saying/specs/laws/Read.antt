@@ -1,8 +1,6 @@
 -- Laws of reading expressions from fields that are those that are due. Assumes nothing.
 use Rattle.std.specs.Prelude.{◌≡◌, true, false, List, [], ◌∷◌, ◌++◌, ℕ, zero, suc, ◌+◌, ◌≤◌, ◌<◌, length, drop}
-use Rattle.std.proofs.Math.Path.{refl}
-use Rattle.std.proofs.Common.{sym, true≢false}
-use native.Mathlib.Omega.{arith}
+use Rattle.std.proofs.Common.{refl, sym, true≢false, arith}
 use Rattle.field.specs.declared.Due.{Due}
 use Rattle.field.specs.declared.Due.TheVariants as due
 use Rattle.field.specs.declared.Operator.{Operator}

@@ -1,7 +1,6 @@
 -- Laws of reading rules from their fields. Assumes nothing.
 use Rattle.std.specs.Prelude.{◌≡◌, ℕ, ◌+◌, ◌-◌, ◌≤◌, drop, length}
-use Rattle.std.proofs.Common.{sym, ◌∙◌, true≢false, arith}
-use mathlib.Core.List.{List, [], ◌∷◌, ◌++◌}
+use Rattle.std.proofs.Common.{sym, ◌∙◌, true≢false, arith, List, [], ◌∷◌, ◌++◌}
 use Rattle.rule.specs.declared.Head.TheVariants as head
 use Rattle.rule.specs.declared.Node.{Node}
 use Rattle.rule.specs.declared.RoleUse.{RoleUse}

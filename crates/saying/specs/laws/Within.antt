@@ -1,8 +1,6 @@
 -- The numbers and counts of an expression that is read from fields with nothing wrong. Assumes nothing.
 use Rattle.std.specs.Prelude.{◌≡◌, true, false, not, List, [], ◌∷◌, ◌++◌, ℕ, zero, suc, ◌-◌, ◌≤◌, ◌<◌, eqb, drop, length}
-use Rattle.std.proofs.Math.Path.{refl}
-use Rattle.std.proofs.Common.{sym, true≢false, length-drop}
-use native.Mathlib.Omega.{arith}
+use Rattle.std.proofs.Common.{refl, sym, true≢false, length-drop, arith}
 use Rattle.std.proofs.lemmas.Bool.{not-false}
 use Rattle.text.specs.Bytes.{place}
 use Rattle.text.specs.laws.Bytes.{between-bounds}

@@ -1,7 +1,6 @@
 -- Laws of the lines of a sheet, one after the other. Assumes nothing.
 use Rattle.std.specs.Prelude.{◌≡◌, refl, Bool, true, false, cond, List, [], ◌∷◌, ℕ, ◌+◌, ◌≤◌, ◌<◌, eqb, length, replicate}
-use Rattle.std.proofs.Common.{sym, ap, ◌∙◌, arith}
-use borrow.Author.Tests.{eq-eqb, eqb-true, ne_eqb}
+use Rattle.std.proofs.Common.{sym, ap, ◌∙◌, arith, eq-eqb, eqb-true, ne_eqb}
 use Rattle.text.specs.Bytes.{every}
 use Rattle.text.specs.Name.{line_byte}
 use Rattle.reader.specs.own.Scan.{line_at}

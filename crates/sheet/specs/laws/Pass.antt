@@ -1,7 +1,6 @@
 -- Laws of the second reading: which rules are done, and which come next. Assumes nothing.
 use Rattle.std.specs.Prelude.{◌≡◌, refl, Bool, true, false, cond, List, [], ◌∷◌, ◌++◌, ℕ, ◌+◌, ◌≤◌, ◌<◌, eqb, leb, length, drop, Option, Some, None}
-use Rattle.std.proofs.Common.{sym, ◌∙◌, append_assoc, append-nil, zero-le, arith, eqb-true, leb-true}
-use Rattle.std.proofs.Math.Path.{ap}
+use Rattle.std.proofs.Common.{sym, ◌∙◌, append_assoc, append-nil, zero-le, arith, eqb-true, leb-true, ap}
 use Rattle.reader.specs.own.Scan.{line_at}
 use Rattle.text.specs.own.Split.{end_of, parts_from}
 use Rattle.text.specs.Split.{fields, lines}

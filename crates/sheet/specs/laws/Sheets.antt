@@ -1,8 +1,6 @@
 -- Laws of a whole sheet. Assumes nothing.
 use Rattle.std.specs.Prelude.{◌≡◌, refl, List, ◌∷◌, length, replicate}
-use Rattle.std.proofs.Common.{sym, ap, ◌∙◌, subst, eq-eqb, le-leb, ne_eqb, ext_get_or}
-use Prim.Native.Nat.{ℕ, zero, suc, ◌+◌, ◌-◌, ◌≤◌, ◌<◌, zero-le}
-use native.Mathlib.Omega.{arith}
+use Rattle.std.proofs.Common.{sym, ap, ◌∙◌, subst, eq-eqb, le-leb, ne_eqb, ext_get_or, ℕ, zero, suc, ◌+◌, ◌-◌, ◌≤◌, ◌<◌, zero-le, arith}
 use Rattle.std.proofs.lemmas.Bool.{lt-leb}
 use Rattle.std.proofs.lemmas.List.{get_or-replicate, length-replicate}
 use Rattle.row.specs.own.Change.{Zeroed}

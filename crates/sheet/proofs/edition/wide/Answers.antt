@@ -1,5 +1,5 @@
 -- `sheet::edition::wide` meets its contract. Assumes nothing.
-use mathlib.Core.Path.{ap, ◌∙◌}
+use Rattle.std.proofs.Common.{ap, ◌∙◌}
 use Rattle.line.specs.Fault.{room_by}
 use Rattle.sheet.specs.laws.Edition.{second-first}
 use Rattle.sheet.proofs.edition.wide.Goals as goal

@@ -1,9 +1,7 @@
 -- `sheet::pass::first` meets its contract. Assumes nothing.
-use mathlib.Core.List.{[]}
-use Prim.Native.Nat.{zero-le}
+use Rattle.std.proofs.Common.{[], zero-le, arith}
 use Rattle.text.specs.laws.Split.{end-le}
 use Rattle.sheet.specs.laws.Pass.{accepted-start, passing-start}
-use native.Mathlib.Omega.{arith}
 use Rattle.sheet.proofs.pass.first.Goals as goal
 
 pub overflow_add-end : goal.overflow_add-end

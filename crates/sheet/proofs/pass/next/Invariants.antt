@@ -1,8 +1,5 @@
 -- `sheet::pass::next` meets its contract: no line from the first place to this one is that of a rule. Assumes nothing.
-use mathlib.Core.Path.{◌≡◌}
-use mathlib.Core.List.{List}
-use Prim.Native.Nat.{◌+◌, ◌-◌, ◌≤◌}
-use lib.ListN.{length}
+use Rattle.std.proofs.Common.{◌≡◌, List, ◌+◌, ◌-◌, ◌≤◌, length}
 use Rattle.sheet.specs.own.Pass.{Passing, table_in}
 use Rattle.sheet.specs.Said.{Said, SheetRule}
 use Rattle.sheet.proofs.pass.next.Given as goal

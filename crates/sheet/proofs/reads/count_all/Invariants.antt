@@ -1,14 +1,10 @@
 -- `sheet::reads::count_all` meets its contract: the findings of n rules are counted, and the next rule is known. Assumes nothing.
-use mathlib.Core.Path.{◌≡◌}
-use mathlib.Core.List.{List}
-use Prim.Native.Nat.{◌+◌, ◌*◌, ◌≤◌}
-use lib.ListN.{length}
+use Rattle.std.proofs.Common.{◌≡◌, List, ◌+◌, ◌*◌, ◌≤◌, length, Some}
 use Rattle.sheet.specs.own.Pass.{Counted, left_after, table_in}
 use Rattle.sheet.specs.Said.{Said, SheetRule, outcome}
 use Rattle.sheet.specs.Said.Outcome.{accepted}
 use Rattle.field.specs.own.Known.{names_in}
 use Rattle.sheet.specs.laws.Count.{Turn}
-use Rattle.std.proofs.Common.{Some}
 use Rattle.sheet.specs.declared.RuleLine.{RuleLine}
 use Rattle.sheet.proofs.reads.count_all.Given as goal
 

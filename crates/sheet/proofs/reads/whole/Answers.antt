@@ -5,9 +5,8 @@ use Rattle.store.specs.Layout.{size}
 use Rattle.store.specs.laws.Laid.{laid_of}
 use Rattle.store.specs.laws.Width.{laid_by, width-wide}
 use Rattle.sheet.specs.laws.Width.{width_some}
-use mathlib.Core.Path.{sym, ap, ◌∙◌}
+use Rattle.std.proofs.Common.{sym, ap, ◌∙◌, arith}
 use Rattle.store.specs.declared.Layout.{Layout}
-use native.Mathlib.Omega.{arith}
 use Rattle.sheet.proofs.reads.whole.Goals as goal
 
 pub returns-then-not-long : goal.returns-then-not-long

@@ -1,12 +1,9 @@
 -- `sheet::sheets::fill` meets its contract. Assumes nothing.
-use mathlib.Core.Path.{◌∙◌, ap}
-use Prim.Native.Nat.{ℕ}
-use native.Mathlib.Omega.{arith}
+use Rattle.std.proofs.Common.{◌∙◌, ap, ℕ, arith, length-set, replicate, get_or-set_same}
 use Rattle.sheet.specs.laws.Sheets.{opens-long, zeroed-all}
-use lib.ListN.{length-replicate, length-set, replicate}
+use Rattle.std.proofs.lemmas.List.{length-replicate}
 use Rattle.store.specs.Layout.{size}
 use Rattle.store.specs.laws.Laid.{laid-is, laid_of}
-use lib.Seq.{get_or-set_same}
 use Rattle.field.specs.own.Table.{room_at}
 use Rattle.sheet.proofs.sheets.fill.Goals as goal
 

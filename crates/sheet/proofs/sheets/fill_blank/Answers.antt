@@ -1,8 +1,6 @@
 -- `sheet::sheets::fill_blank` meets its contract. Assumes nothing.
-use native.Mathlib.Omega.{arith}
+use Rattle.std.proofs.Common.{arith, length-set, get_or-set_same}
 use Rattle.sheet.specs.laws.Sheets.{opens-long}
-use lib.ListN.{length-set}
-use lib.Seq.{get_or-set_same}
 use Rattle.field.specs.own.Table.{room_at}
 use Rattle.sheet.proofs.sheets.fill_blank.Goals as goal
 

@@ -1,8 +1,5 @@
 -- `sheet::sheets::read_all` meets its contract. Assumes nothing.
-use native.Mathlib.Omega.{arith}
-use mathlib.Core.Path.{sym, ap, ◌∙◌}
-use lib.ListN.{length-set}
-use lib.Seq.{get_or-set_same}
+use Rattle.std.proofs.Common.{arith, sym, ap, ◌∙◌, length-set, get_or-set_same}
 use Rattle.text.specs.laws.Split.{end-le}
 use Rattle.field.specs.own.Table.{room_at, room_of}
 use Rattle.line.specs.Fault.{header_fault, room_by}

@@ -1,9 +1,5 @@
 -- `sheet::sheets::read_lines` meets its contract. Assumes nothing.
-use native.Mathlib.Omega.{arith}
-use borrow.Author.Rules.{rules}
-use mathlib.Core.Path.{refl, ap, ◌∙◌}
-use Prim.Native.Nat.{ℕ, ◌-◌}
-use lib.ListN.{length}
+use Rattle.std.proofs.Common.{arith, rules, refl, ap, ◌∙◌, ℕ, ◌-◌, length}
 use Rattle.text.specs.own.Split.{part_of}
 use Rattle.text.specs.laws.Split.{end_ge, end-le}
 use Rattle.field.specs.laws.Looked.{looked}

@@ -1,7 +1,5 @@
 -- `sheet::sheets::read_lines` meets its contract. Assumes nothing.
-use mathlib.Core.Path.{◌≡◌}
-use Prim.Native.Nat.{◌+◌, ◌-◌}
-use lib.ListN.{length}
+use Rattle.std.proofs.Common.{◌≡◌, ◌+◌, ◌-◌, length}
 use Rattle.text.specs.own.Split.{parts_from}
 use Rattle.field.specs.own.Table.{room_of}
 use Rattle.sheet.specs.Said.{nothing, outcome_from}

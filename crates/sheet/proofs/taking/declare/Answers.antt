@@ -1,5 +1,5 @@
 -- `sheet::taking::declare` meets its contract. Assumes nothing.
-use native.Mathlib.Omega.{arith}
+use Rattle.std.proofs.Common.{arith}
 use Rattle.reader.specs.laws.Ends.{room-between}
 use Rattle.text.specs.laws.Name.{name-bounds}
 use Rattle.sheet.proofs.taking.declare.Goals as goal

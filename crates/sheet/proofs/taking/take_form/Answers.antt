@@ -1,7 +1,6 @@
 -- `sheet::taking::take_form` meets its contract. Assumes nothing.
 use Rattle.sheet.specs.laws.Taken.{concept-declared, concept-room, concept-taken, item-declared, item-most, item-place, item_room, item-taken, line-near, role-declared, role-room, role-taken, rule-room, rule-taken, other-taken}
-use mathlib.Core.Path.{sym, ◌∙◌}
-use native.Mathlib.Omega.{arith}
+use Rattle.std.proofs.Common.{sym, ◌∙◌, arith}
 use Rattle.line.specs.Fault.{begun}
 use Rattle.sheet.specs.laws.Stands.{stands-fits, stopped-zero}
 use Rattle.sheet.proofs.taking.take_form.Goals as goal
