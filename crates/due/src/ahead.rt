@@ -15,19 +15,19 @@ pub fn pend(lead: Option<Lead>, exprs: usize, own: usize) -> Pending
 }
 
 // What is still due after a word of an expression, where m expressions were due after that one.
-fn wants(o: Operator, m: usize, own: usize) -> Pending
+fn wants(o: Option<Operator>, m: usize, own: usize) -> Pending
     requires { m < plenty }
     ensures { result ≡ opening o m own }
 {
     match o {
-        Operator::And | Operator::Or => pend(None, m + 2, own),
-        Operator::Not => pend(None, m + 1, own),
-        Operator::Some | Operator::All => pend(Some(Lead::RoleUse), m + 1, own),
-        Operator::AtLeast => pend(Some(Lead::AtLeast), m + 1, own),
-        Operator::AtMost => pend(Some(Lead::AtMost), m + 1, own),
-        Operator::SelfOf => pend(Some(Lead::RoleUse), m, own),
-        Operator::One => pend(Some(Lead::Item), m, own),
-        Operator::Top | Operator::Bot | Operator::None => pend(None, m, own),
+        Some(Operator::And) | Some(Operator::Or) => pend(None, m + 2, own),
+        Some(Operator::Not) => pend(None, m + 1, own),
+        Some(Operator::Some) | Some(Operator::All) => pend(Some(Lead::RoleUse), m + 1, own),
+        Some(Operator::AtLeast) => pend(Some(Lead::AtLeast), m + 1, own),
+        Some(Operator::AtMost) => pend(Some(Lead::AtMost), m + 1, own),
+        Some(Operator::SelfOf) => pend(Some(Lead::RoleUse), m, own),
+        Some(Operator::One) => pend(Some(Lead::Item), m, own),
+        Some(Operator::Top) | Some(Operator::Bot) | None => pend(None, m, own),
     }
 }
 
@@ -60,7 +60,7 @@ pub fn next_due(l: Lineup, p: Pending) -> Due
 }
 
 // What is still due after the next of the line-up's own dues, in a field with the word o.
-fn step_own(l: Lineup, own: usize, o: Operator) -> Pending
+fn step_own(l: Lineup, own: usize, o: Option<Operator>) -> Pending
     requires { own < plenty }
     ensures { Step l (record { lead = None; exprs = 0; own = own }) o result }
 {
@@ -71,7 +71,7 @@ fn step_own(l: Lineup, own: usize, o: Operator) -> Pending
 }
 
 // What is still due after one field more, which has the word o.
-pub fn step(l: Lineup, p: Pending, o: Operator) -> Pending
+pub fn step(l: Lineup, p: Pending, o: Option<Operator>) -> Pending
     requires { (p.exprs < plenty) × (p.own < plenty) }
     ensures { Step l p o result }
 {
@@ -90,19 +90,19 @@ pub fn step(l: Lineup, p: Pending, o: Operator) -> Pending
 }
 
 // The nodes that a word of an expression stands for.
-fn nodes_of(o: Operator) -> usize
+fn nodes_of(o: Option<Operator>) -> usize
     ensures { (result ≡ nodes_of o) × (result ≤ 4) }
 {
     match o {
-        Operator::Or => 4,
-        Operator::All => 3,
-        Operator::AtMost | Operator::Bot => 2,
+        Some(Operator::Or) => 4,
+        Some(Operator::All) => 3,
+        Some(Operator::AtMost) | Some(Operator::Bot) => 2,
         _ => 1,
     }
 }
 
 // The nodes of a field in which d is due, and which has the word o.
-pub fn due_nodes(d: Due, o: Operator) -> usize
+pub fn due_nodes(d: Due, o: Option<Operator>) -> usize
     ensures { (result ≡ cond (is_expr d) (nodes_of o) 0) × (result ≤ 4) }
 {
     if crate::dues::is_expr(d) {
@@ -111,12 +111,12 @@ pub fn due_nodes(d: Due, o: Operator) -> usize
     0
 }
 
-// The word that a field is, asked only where an expression is due.
-pub fn word_in(d: Due, f: &[u8]) -> Operator
-    ensures { result ≡ cond (is_expr d) (operator_of f.now) Operator.None }
+// The word that a field is, if it is one; asked only where an expression is due.
+pub fn word_in(d: Due, f: &[u8]) -> Option<Operator>
+    ensures { result ≡ cond (is_expr d) (operator_of f.now) None }
 {
     if crate::dues::is_expr(d) {
         return field::words::operator(f);
     }
-    Operator::None
+    None
 }

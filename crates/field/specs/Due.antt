@@ -1,4 +1,5 @@
 -- What is due in the fields of a line, and whether there are too few fields or too many.
+use Rattle.std.specs.Prelude.{Option, Some, None}
 use Rattle.std.specs.Prelude.{Bool, true, false, cond, List, [], ◌∷◌, ◌++◌, ℕ, min, max, ◌+◌, take}
 use Rattle.field.specs.declared.Due.{Due}
 use Rattle.field.specs.declared.Due.TheVariants.{NewConcept, NewRole, NewItem, Concept, Role, Item, RoleUse, AtLeast, AtMost, Expr, Nothing}
@@ -72,19 +73,19 @@ abbrev pub dues : Lineup → List Due
 dues l = take l.count (l.first ∷ l.second ∷ l.third ∷ l.fourth ∷ l.fifth ∷ [])
 
 -- what a word of an expression wants after it
-abbrev pub wanted : Operator → List Due
-wanted operator.And = Expr ∷ Expr ∷ []
-wanted operator.Or = Expr ∷ Expr ∷ []
-wanted operator.Not = Expr ∷ []
-wanted operator.Some = RoleUse ∷ Expr ∷ []
-wanted operator.All = RoleUse ∷ Expr ∷ []
-wanted operator.AtLeast = AtLeast ∷ RoleUse ∷ Expr ∷ []
-wanted operator.AtMost = AtMost ∷ RoleUse ∷ Expr ∷ []
-wanted operator.SelfOf = RoleUse ∷ []
-wanted operator.One = Item ∷ []
-wanted operator.Top = []
-wanted operator.Bot = []
-wanted operator.None = []
+abbrev pub wanted : Option Operator → List Due
+wanted (Some operator.And) = Expr ∷ Expr ∷ []
+wanted (Some operator.Or) = Expr ∷ Expr ∷ []
+wanted (Some operator.Not) = Expr ∷ []
+wanted (Some operator.Some) = RoleUse ∷ Expr ∷ []
+wanted (Some operator.All) = RoleUse ∷ Expr ∷ []
+wanted (Some operator.AtLeast) = AtLeast ∷ RoleUse ∷ Expr ∷ []
+wanted (Some operator.AtMost) = AtMost ∷ RoleUse ∷ Expr ∷ []
+wanted (Some operator.SelfOf) = RoleUse ∷ []
+wanted (Some operator.One) = Item ∷ []
+wanted (Some operator.Top) = []
+wanted (Some operator.Bot) = []
+wanted None = []
 
 -- a word of an expression, or a concept, is due
 abbrev pub is_expr : Due → Bool

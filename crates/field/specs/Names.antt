@@ -1,4 +1,5 @@
 -- The declared names, and what is wrong with a field.
+use Rattle.std.specs.Prelude.{Option, Some, None}
 use Rattle.std.specs.Prelude.{Bool, false, cond, not, List, [], ◌∷◌, ℕ, ◌+◌, ◌-◌, min, leb, ltb, eqb, length, get_or, drop}
 use Rattle.text.specs.Bytes.{between, place}
 use Rattle.text.specs.Date.{date_shaped, digit}
@@ -84,19 +85,19 @@ field_faults n [] (f ∷ fs) = 0
 field_faults n (d ∷ ds) (f ∷ fs) = lower_fault (field_fault n d f) (field_faults n (next d f ds) fs)
 
 -- the nodes that a word of an expression stands for after short forms are expanded; those that it wants after it are counted at their own words
-abbrev pub nodes_of : Operator → ℕ
-nodes_of operator.And = 1
-nodes_of operator.Or = 4
-nodes_of operator.Not = 1
-nodes_of operator.Some = 1
-nodes_of operator.All = 3
-nodes_of operator.AtLeast = 1
-nodes_of operator.AtMost = 2
-nodes_of operator.SelfOf = 1
-nodes_of operator.One = 1
-nodes_of operator.Top = 1
-nodes_of operator.Bot = 2
-nodes_of operator.None = 1
+abbrev pub nodes_of : Option Operator → ℕ
+nodes_of (Some operator.And) = 1
+nodes_of (Some operator.Or) = 4
+nodes_of (Some operator.Not) = 1
+nodes_of (Some operator.Some) = 1
+nodes_of (Some operator.All) = 3
+nodes_of (Some operator.AtLeast) = 1
+nodes_of (Some operator.AtMost) = 2
+nodes_of (Some operator.SelfOf) = 1
+nodes_of (Some operator.One) = 1
+nodes_of (Some operator.Top) = 1
+nodes_of (Some operator.Bot) = 2
+nodes_of None = 1
 
 -- the nodes of all the fields
 unfoldable pub nodes_in : List Due → List Field → ℕ

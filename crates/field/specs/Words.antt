@@ -1,4 +1,5 @@
 -- The words of a sheet, and what a line is by its word.
+use Rattle.std.specs.Prelude.{Option, Some, None}
 use Rattle.std.specs.Prelude.{Bool, cond, List, [], ◌∷◌, ℕ, get_or, drop}
 use Rattle.text.specs.Bytes.{bytes, same}
 use Rattle.field.specs.declared.Form.{Form}
@@ -29,14 +30,14 @@ meaning none [] f = none
 meaning none (p ∷ ps) f = cond (same f p.0) p.1 (meaning none ps f)
 
 -- the eleven words of expressions
-abbrev pub operator_words : List (Field × Operator)
+abbrev pub operator_words : List (Field × Option Operator)
 operator_words =
-    (bytes "and", operator.And) ∷ (bytes "or", operator.Or) ∷ (bytes "not", operator.Not) ∷ (bytes "some", operator.Some) ∷ (bytes "all", operator.All)
-    ∷ (bytes "atleast", operator.AtLeast) ∷ (bytes "atmost", operator.AtMost) ∷ (bytes "self", operator.SelfOf) ∷ (bytes "one", operator.One)
-    ∷ (bytes "top", operator.Top) ∷ (bytes "bot", operator.Bot) ∷ []
+    (bytes "and", Some operator.And) ∷ (bytes "or", Some operator.Or) ∷ (bytes "not", Some operator.Not) ∷ (bytes "some", Some operator.Some) ∷ (bytes "all", Some operator.All)
+    ∷ (bytes "atleast", Some operator.AtLeast) ∷ (bytes "atmost", Some operator.AtMost) ∷ (bytes "self", Some operator.SelfOf) ∷ (bytes "one", Some operator.One)
+    ∷ (bytes "top", Some operator.Top) ∷ (bytes "bot", Some operator.Bot) ∷ []
 
-unfoldable pub operator_of : Field → Operator
-operator_of f = meaning operator.None operator_words f
+unfoldable pub operator_of : Field → Option Operator
+operator_of f = meaning None operator_words f
 
 -- the words of declarations and statements
 abbrev pub line_words : List (Field × Form)
@@ -69,14 +70,14 @@ form_of (w ∷ []) = cond (is_rule w) form.Bare (line_form w)
 form_of (w ∷ v ∷ fs) = cond (is_rule w) (rule_form v) (line_form w)
 
 -- the section that a line is in
-abbrev pub section_of : Form → Section
-section_of form.Concept = section.Declarations
-section_of form.Role = section.Declarations
-section_of form.Item = section.Declarations
-section_of (form.Statement w) = section.Statements
-section_of (form.Rule w) = section.Rules
-section_of form.Bare = section.Rules
-section_of form.Unknown = section.None
+abbrev pub section_of : Form → Option Section
+section_of form.Concept = Some section.Declarations
+section_of form.Role = Some section.Declarations
+section_of form.Item = Some section.Declarations
+section_of (form.Statement w) = Some section.Statements
+section_of (form.Rule w) = Some section.Rules
+section_of form.Bare = Some section.Rules
+section_of form.Unknown = None
 
 -- the fields after the word or words
 abbrev pub body_of : List Field → List Field

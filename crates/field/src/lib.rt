@@ -10,7 +10,7 @@ pub mod words;
 use rule::Rule;
 use store::Store;
 
-// The words of concept expressions; None is any other field.
+// The words of concept expressions.
 #[derive(Clone, Copy)]
 pub enum Operator {
     And,
@@ -24,7 +24,6 @@ pub enum Operator {
     One,
     Top,
     Bot,
-    None,
 }
 
 // The words of statements.
@@ -68,13 +67,12 @@ pub enum Form {
     Unknown,
 }
 
-// The sections of a sheet, in their order; None is that of an unknown word.
+// The sections of a sheet, in their order.
 #[derive(Clone, Copy)]
 pub enum Section {
     Declarations,
     Statements,
     Rules,
-    None,
 }
 
 // What is due in a field.

@@ -1,57 +1,49 @@
 ghost use Rattle.std.specs.Prelude.{◌≡◌};
 ghost use Rattle.field.specs.Names.{reserved as reserved_of};
 ghost use Rattle.field.specs.Words.{form_of, is_rule, line_form, operator_of, rule_form, section_of};
-ghost use Rattle.field.specs.own.Code.{is_word};
 ghost use Rattle.field.specs.own.Known.{fields_in};
 ghost use Rattle.field.specs.own.Line.{words_of};
 
 use crate::known::Fields;
 use crate::{Form, Operator, RuleWord, Section, StatementWord};
 
-// The word of an expression that a field is.
-pub fn operator(f: &[u8]) -> Operator
+// The word of an expression that a field is; none where it is any other field.
+pub fn operator(f: &[u8]) -> Option<Operator>
     ensures { result ≡ operator_of f.now }
 {
     let k = crate::code::code(f);
     match k {
         // and
-        23359073 => Operator::And,
+        23359073 => Some(Operator::And),
         // or
-        94831 => Operator::Or,
+        94831 => Some(Operator::Or),
         // not
-        24407918 => Operator::Not,
+        24407918 => Some(Operator::Not),
         // some
-        5996638067 => Operator::Some,
+        5996638067 => Some(Operator::Some),
         // all
-        23882849 => Operator::All,
+        23882849 => Some(Operator::All),
         // atleast
-        104835553486992481 => Operator::AtLeast,
+        104835553486992481 => Some(Operator::AtLeast),
         // atmost
-        409514116215905 => Operator::AtMost,
+        409514116215905 => Some(Operator::AtMost),
         // self
-        6013347187 => Operator::SelfOf,
+        6013347187 => Some(Operator::SelfOf),
         // one
-        23424623 => Operator::One,
+        23424623 => Some(Operator::One),
         // top
-        24145780 => Operator::Top,
+        24145780 => Some(Operator::Top),
         // bot
-        24407906 => Operator::Bot,
-        _ => Operator::None,
+        24407906 => Some(Operator::Bot),
+        _ => None,
     }
-}
-
-// Whether it is one of the eleven words.
-fn is_word(w: Operator) -> bool
-    ensures { result ≡ is_word w }
-{
-    !matches!(w, Operator::None)
 }
 
 // Whether a field is one of the words of expressions.
 pub fn reserved(f: &[u8]) -> bool
     ensures { result ≡ reserved_of f.now }
 {
-    is_word(operator(f))
+    operator(f).is_some()
 }
 
 // The declaration or statement that a first word begins.
@@ -143,14 +135,14 @@ pub fn words(f: Form) -> usize
     }
 }
 
-// The section that a line is in.
-pub fn section(f: Form) -> Section
+// The section that a line is in; none where its word is unknown.
+pub fn section(f: Form) -> Option<Section>
     ensures { result ≡ section_of f }
 {
     match f {
-        Form::Concept | Form::Role | Form::Item => Section::Declarations,
-        Form::Statement(_) => Section::Statements,
-        Form::Rule(_) | Form::Bare => Section::Rules,
-        Form::Unknown => Section::None,
+        Form::Concept | Form::Role | Form::Item => Some(Section::Declarations),
+        Form::Statement(_) => Some(Section::Statements),
+        Form::Rule(_) | Form::Bare => Some(Section::Rules),
+        Form::Unknown => None,
     }
 }

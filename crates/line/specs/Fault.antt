@@ -1,4 +1,5 @@
 -- What is wrong with a line: the numbers of refusal 10 to 21.
+use Rattle.std.specs.Prelude.{Option, Some, None}
 use Rattle.std.specs.Prelude.{Bool, true, false, cond, not, ◌||◌, ◌&&◌, List, ◌∷◌, ◌++◌, ℕ, leb, ltb, length}
 use Rattle.text.specs.Bytes.{bytes, every, same}
 use Rattle.text.specs.Name.{line_byte}
@@ -28,25 +29,25 @@ abbrev pub begun : Marks → Bool
 begun m = m.stated || ltb 0 m.rules
 
 -- the section has ended: a declaration after a statement or rule, a statement after a rule
-abbrev pub ended : Marks → Section → Bool
-ended m section.Declarations = begun m
-ended m section.Statements = ltb 0 m.rules
-ended m section.Rules = false
-ended m section.None = false
+abbrev pub ended : Marks → Option Section → Bool
+ended m (Some section.Declarations) = begun m
+ended m (Some section.Statements) = ltb 0 m.rules
+ended m (Some section.Rules) = false
+ended m None = false
 
 -- the word is unknown
-abbrev pub unknown : Section → Bool
-unknown section.Declarations = false
-unknown section.Statements = false
-unknown section.Rules = false
-unknown section.None = true
+abbrev pub unknown : Option Section → Bool
+unknown (Some section.Declarations) = false
+unknown (Some section.Statements) = false
+unknown (Some section.Rules) = false
+unknown None = true
 
 -- there is no room for one more rule
-abbrev pub full : Marks → Section → Bool
-full m section.Declarations = false
-full m section.Statements = false
-full m section.Rules = leb rule_limit m.rules
-full m section.None = false
+abbrev pub full : Marks → Option Section → Bool
+full m (Some section.Declarations) = false
+full m (Some section.Statements) = false
+full m (Some section.Rules) = leb rule_limit m.rules
+full m None = false
 
 -- what is wrong with the fields of a line: the lowest number that applies, or 0
 unfoldable pub fields_fault : Names → Marks → Form → List Field → ℕ

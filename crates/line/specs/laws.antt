@@ -3,3 +3,4 @@ pub mod Walk
 pub mod Fault
 pub mod Header
 pub mod Some
+pub mod Number

@@ -1,2 +1,3 @@
 -- The code's own records, which no promise mentions.
 pub mod Walk
+pub mod Number

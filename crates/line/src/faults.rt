@@ -2,140 +2,142 @@ ghost use Rattle.std.specs.Prelude.{◌≡◌, not, true, ◌<◌, leb, ltb};
 ghost use Rattle.text.specs.Name.{is_name};
 ghost use Rattle.field.specs.Names.{fault, field_fault, is_count, lower_fault};
 ghost use Rattle.field.specs.own.Known.{names_in};
+ghost use Rattle.line.specs.own.Number.{found, number_of};
 
+use crate::Fault;
 use field::Due;
 use field::known::Known;
 use rule::Rule;
 use store::Store;
 
 // What is wrong with a name to be declared that is at a place among the names, of so many, where there is room for so many.
-fn new_name(found: usize, count: usize, room: usize) -> usize
-    ensures { result ≡ fault (ltb found count) 17 (fault (leb room count) 18 0) }
+fn new_name(at: usize, count: usize, room: usize) -> Result<(), Fault>
+    ensures { found result ≡ fault (ltb at count) 17 (fault (leb room count) 18 0) }
 {
-    if found < count {
-        return 17;
+    if at < count {
+        return Err(Fault::Again);
     }
     if room <= count {
-        return 18;
+        return Err(Fault::Room);
     }
-    0
+    Ok(())
 }
 
 // What is wrong with a name that is to be one of those declared, of which there are so many, and was found at a place among them; past them it is none of them. Those declared are names.
-fn old_name(f: &[u8], found: usize, count: usize) -> usize
-    requires { found < count → is_name f.now ≡ true }
-    ensures { result ≡ fault (not (is_name f.now)) 15 (fault (not (ltb found count)) 19 0) }
+fn old_name(f: &[u8], at: usize, count: usize) -> Result<(), Fault>
+    requires { at < count → is_name f.now ≡ true }
+    ensures { found result ≡ fault (not (is_name f.now)) 15 (fault (not (ltb at count)) 19 0) }
 {
-    if found < count {
-        return 0;
+    if at < count {
+        return Ok(());
     }
     if text::name::is_name(f) {
-        return 19;
+        return Err(Fault::Undeclared);
     }
-    15
+    Err(Fault::Name)
 }
 
 // What is wrong with the name of a new concept.
 #[tactic(auto, unfolding(field::specs::Names::field_fault, field::specs::Names::new_fault))]
-fn new_concept(known: &Known, f: &[u8]) -> usize
-    ensures { result ≡ field_fault (names_in known.now) Due.NewConcept f.now }
+fn new_concept(known: &Known, f: &[u8]) -> Result<(), Fault>
+    ensures { found result ≡ field_fault (names_in known.now) Due.NewConcept f.now }
 {
     if !text::name::is_name(f) || field::words::reserved(f) {
-        return 15;
+        return Err(Fault::Name);
     }
     new_name(known.concept(f), known.counts.concepts, Store::CONCEPTS)
 }
 
 // What is wrong with the name of a new role.
 #[tactic(auto, unfolding(field::specs::Names::field_fault, field::specs::Names::new_fault))]
-fn new_role(known: &Known, f: &[u8]) -> usize
-    ensures { result ≡ field_fault (names_in known.now) Due.NewRole f.now }
+fn new_role(known: &Known, f: &[u8]) -> Result<(), Fault>
+    ensures { found result ≡ field_fault (names_in known.now) Due.NewRole f.now }
 {
     if !text::name::is_name(f) {
-        return 15;
+        return Err(Fault::Name);
     }
     new_name(known.role(f), known.counts.roles, Store::ROLES)
 }
 
 // What is wrong with the name of a new item.
 #[tactic(auto, unfolding(field::specs::Names::field_fault, field::specs::Names::new_fault))]
-fn new_item(known: &Known, f: &[u8]) -> usize
-    ensures { result ≡ field_fault (names_in known.now) Due.NewItem f.now }
+fn new_item(known: &Known, f: &[u8]) -> Result<(), Fault>
+    ensures { found result ≡ field_fault (names_in known.now) Due.NewItem f.now }
 {
     if !text::name::is_name(f) {
-        return 15;
+        return Err(Fault::Name);
     }
     if text::date::date_shaped(f) {
-        return 16;
+        return Err(Fault::Date);
     }
     new_name(known.item(f), known.counts.items, known.room())
 }
 
 // What is wrong with the name of a concept in a statement.
 #[tactic(auto, unfolding(field::specs::Names::field_fault, field::specs::Names::name_fault))]
-fn concept(known: &Known, f: &[u8]) -> usize
-    ensures { result ≡ field_fault (names_in known.now) Due.Concept f.now }
+fn concept(known: &Known, f: &[u8]) -> Result<(), Fault>
+    ensures { found result ≡ field_fault (names_in known.now) Due.Concept f.now }
 {
-    let found = known.concept(f);
-    if found < known.counts.concepts {
-        return 0;
+    let at = known.concept(f);
+    if at < known.counts.concepts {
+        return Ok(());
     }
     if field::words::reserved(f) {
-        return 15;
+        return Err(Fault::Name);
     }
-    old_name(f, found, known.counts.concepts)
+    old_name(f, at, known.counts.concepts)
 }
 
 // What is wrong with a word of an expression.
 #[tactic(auto, unfolding(field::specs::Names::field_fault, field::specs::Names::name_fault))]
-fn expr(known: &Known, f: &[u8]) -> usize
-    ensures { result ≡ field_fault (names_in known.now) Due.Expr f.now }
+fn expr(known: &Known, f: &[u8]) -> Result<(), Fault>
+    ensures { found result ≡ field_fault (names_in known.now) Due.Expr f.now }
 {
     if field::words::reserved(f) {
-        return 0;
+        return Ok(());
     }
     old_name(f, known.concept(f), known.counts.concepts)
 }
 
 // What is wrong with the name of a role.
 #[tactic(auto, unfolding(field::specs::Names::field_fault, field::specs::Names::name_fault))]
-fn role(known: &Known, f: &[u8]) -> usize
-    ensures { result ≡ field_fault (names_in known.now) Due.Role f.now }
+fn role(known: &Known, f: &[u8]) -> Result<(), Fault>
+    ensures { found result ≡ field_fault (names_in known.now) Due.Role f.now }
 {
     old_name(f, known.role(f), known.counts.roles)
 }
 
 // What is wrong with a role or its inverse.
 #[tactic(auto, unfolding(field::specs::Names::field_fault, field::specs::Names::name_fault))]
-fn role_use(known: &Known, f: &[u8]) -> usize
-    ensures { result ≡ field_fault (names_in known.now) Due.RoleUse f.now }
+fn role_use(known: &Known, f: &[u8]) -> Result<(), Fault>
+    ensures { found result ≡ field_fault (names_in known.now) Due.RoleUse f.now }
 {
     role(known, field::names::plain(f))
 }
 
 // What is wrong with the name of an item.
 #[tactic(auto, unfolding(field::specs::Names::field_fault, field::specs::Names::name_fault))]
-fn item(known: &Known, f: &[u8]) -> usize
-    ensures { result ≡ field_fault (names_in known.now) Due.Item f.now }
+fn item(known: &Known, f: &[u8]) -> Result<(), Fault>
+    ensures { found result ≡ field_fault (names_in known.now) Due.Item f.now }
 {
     old_name(f, known.item(f), known.counts.items)
 }
 
 // What is wrong with a count.
-fn count(f: &[u8], least: usize, most: usize) -> usize
-    ensures { result ≡ fault (not (is_count least most f.now)) 20 0 }
+fn count(f: &[u8], least: usize, most: usize) -> Result<(), Fault>
+    ensures { found result ≡ fault (not (is_count least most f.now)) 20 0 }
 {
     if f.len() == 1 && (least..=most).contains(&field::names::count(f)) {
-        0
+        Ok(())
     } else {
-        20
+        Err(Fault::Count)
     }
 }
 
-// What is wrong with a field in which d is due: the lowest number that applies, or 0.
+// What is wrong with a field in which d is due: the fault with the lowest number that applies.
 #[tactic(auto, unfolding(field::specs::Names::field_fault, field::specs::Names::name_fault))]
-pub fn field(known: &Known, d: Due, f: &[u8]) -> usize
-    ensures { result ≡ field_fault (names_in known.now) d f.now }
+pub fn field(known: &Known, d: Due, f: &[u8]) -> Result<(), Fault>
+    ensures { found result ≡ field_fault (names_in known.now) d f.now }
 {
     match d {
         Due::NewConcept => new_concept(known, f),
@@ -148,20 +150,42 @@ pub fn field(known: &Known, d: Due, f: &[u8]) -> usize
         Due::AtLeast => count(f, 1, Rule::COUNT),
         Due::AtMost => count(f, 0, Rule::COUNT - 1),
         Due::Expr => expr(known, f),
-        Due::Nothing => 0,
+        Due::Nothing => Ok(()),
     }
 }
 
-// The lower of two numbers of refusal; 0 is none.
-#[tactic(auto, unfolding(field::specs::Names::lower_fault))]
-pub fn lower(a: usize, b: usize) -> usize
-    ensures { result ≡ lower_fault a b }
+impl Fault {
+    // The number of refusal.
+    pub fn number(self) -> usize
+        ensures { result ≡ number_of self }
+    {
+        self as usize
+    }
+}
+
+// Of two findings the fault with the lower number.
+#[tactic(auto, using(crate::specs::laws::Number::number_some), unfolding(field::specs::Names::lower_fault))]
+pub fn lower(a: Result<(), Fault>, b: Result<(), Fault>) -> Result<(), Fault>
+    ensures { found result ≡ lower_fault (found a) (found b) }
 {
-    if a == 0 {
-        return b;
+    match (a, b) {
+        (Err(first), Err(second)) => {
+            if second.number() < first.number() {
+                return b;
+            }
+            a
+        }
+        (Ok(()), _) => b,
+        (_, Ok(())) => a,
     }
-    if b == 0 {
-        return a;
+}
+
+// The number of what was found; 0 is nothing.
+pub fn number_found(finding: Result<(), Fault>) -> usize
+    ensures { result ≡ found finding }
+{
+    match finding {
+        Ok(()) => 0,
+        Err(fault) => fault.number(),
     }
-    a.min(b)
 }

@@ -5,11 +5,40 @@ mod faults;
 pub mod lines;
 mod walk;
 
-// What all the fields of a line come to: whether they are exactly those that are due, the lowest number of refusal that applies to one of them or 0, and their nodes.
+// What can be wrong with a line, by the numbers of refusal: of two that apply the lower one counts.
+#[derive(Clone, Copy)]
+pub enum Fault {
+    // The line is too long, or has a byte that may not stand in a line.
+    Bytes = 10,
+    // Line 1 is no header that the store takes.
+    Header,
+    // Its word is unknown.
+    Word,
+    // Its section has ended.
+    Ended,
+    // It has too few fields, or too many.
+    Fields,
+    // A field is no name, or a name that is not allowed there.
+    Name,
+    // An item's name is date-shaped.
+    Date,
+    // A name is declared again.
+    Again,
+    // There is no room for one more.
+    Room,
+    // A name is not declared.
+    Undeclared,
+    // A count is none.
+    Count,
+    // A rule has too many nodes.
+    Nodes,
+}
+
+// What all the fields of a line come to: whether they are exactly those that are due, the lowest fault of one of them, and their nodes.
 #[derive(Clone, Copy)]
 struct Walked {
     pub fits: bool,
-    pub fault: usize,
+    pub fault: Result<(), Fault>,
     pub nodes: usize,
 }
 

@@ -5,64 +5,65 @@ ghost use Rattle.rule.specs.Form.{node_limit};
 ghost use Rattle.field.specs.Names.{fault};
 ghost use Rattle.line.specs.Fault.{ended as ended_by, fields_fault, form_fault, full as full_by, headed as headed_by, header_fault, is_second, line_fault, line_limit, room_by, unknown as unknown_by};
 ghost use Rattle.field.specs.own.Known.{fields_in, names_in};
+ghost use Rattle.line.specs.own.Number.{found};
 ghost use Rattle.field.specs.Words.{body_of, form_of};
 ghost use Rattle.field.specs.own.Line.{Looked, words_of};
 
-use crate::{Marks, Sheet};
+use crate::{Fault, Marks, Sheet};
 use field::known::{Fields, Known};
 use field::{Form, Section};
 use rule::Rule;
 use store::Store;
 
 // Whether the section has ended.
-fn ended(m: Marks, s: Section) -> bool
+fn ended(m: Marks, s: Option<Section>) -> bool
     ensures { result ≡ ended_by m s }
 {
     match s {
-        Section::Declarations => m.stated || 0 < m.rules,
-        Section::Statements => 0 < m.rules,
+        Some(Section::Declarations) => m.stated || 0 < m.rules,
+        Some(Section::Statements) => 0 < m.rules,
         _ => false,
     }
 }
 
 // Whether the word of the section is unknown.
-fn unknown(s: Section) -> bool
+fn unknown(s: Option<Section>) -> bool
     ensures { result ≡ unknown_by s }
 {
-    matches!(s, Section::None)
+    s.is_none()
 }
 
 // Whether there is no room for one more rule.
-fn full(m: Marks, s: Section) -> bool
+fn full(m: Marks, s: Option<Section>) -> bool
     ensures { result ≡ full_by m s }
 {
-    matches!(s, Section::Rules) && Sheet::RULES <= m.rules
+    matches!(s, Some(Section::Rules)) && Sheet::RULES <= m.rules
 }
 
 // What is wrong with the room for rules, or with so many nodes.
-fn size_fault(filled: bool, nodes: usize) -> usize
-    ensures { result ≡ fault filled 18 (fault (ltb node_limit nodes) 21 0) }
+fn size_fault(filled: bool, nodes: usize) -> Result<(), Fault>
+    ensures { found result ≡ fault filled 18 (fault (ltb node_limit nodes) 21 0) }
 {
     if filled {
-        return 18;
+        return Err(Fault::Room);
     }
     if Rule::NODES < nodes {
-        return 21;
+        return Err(Fault::Nodes);
     }
-    0
+    Ok(())
 }
 
 // What is wrong with the fields of a line of the form given, after its word or words.
 #[tactic(auto, unfolding(crate::specs::Fault::fields_fault))]
-fn fields_fault(known: &Known, m: Marks, fields: &Fields, f: Form) -> usize
+fn fields_fault(known: &Known, m: Marks, fields: &Fields, f: Form) -> Result<(), Fault>
     requires { length fields.now.line.now ≤ line_limit }
-    ensures { result ≡ fields_fault (names_in known.now) m f (drop (words_of f) (fields_in fields.now)) }
+    ensures { found result ≡ fields_fault (names_in known.now) m f (drop (words_of f) (fields_in fields.now)) }
 {
     let from = field::words::words(f);
     let l = due::dues::lineup(f, fields.ends.len().saturating_sub(from));
     let w = crate::walk::walk(known, fields, from, l);
     if !w.fits {
-        return 14;
+        return Err(Fault::Fields);
     }
     let filled = full(m, field::words::section(f));
     crate::faults::lower(w.fault, size_fault(filled, w.nodes))
@@ -70,17 +71,17 @@ fn fields_fault(known: &Known, m: Marks, fields: &Fields, f: Form) -> usize
 
 // What is wrong with a line, by its form.
 #[tactic(auto, unfolding(crate::specs::Fault::form_fault))]
-fn form_fault(known: &Known, m: Marks, fields: &Fields) -> usize
+fn form_fault(known: &Known, m: Marks, fields: &Fields) -> Result<(), Fault>
     requires { length fields.now.line.now ≤ line_limit }
-    ensures { result ≡ form_fault (names_in known.now) m (form_of (fields_in fields.now)) (body_of (fields_in fields.now)) }
+    ensures { found result ≡ form_fault (names_in known.now) m (form_of (fields_in fields.now)) (body_of (fields_in fields.now)) }
 {
     let f = field::words::form(fields);
     let s = field::words::section(f);
     if unknown(s) {
-        return 12;
+        return Err(Fault::Word);
     }
     if ended(m, s) {
-        return 13;
+        return Err(Fault::Ended);
     }
     fields_fault(known, m, fields, f)
 }
@@ -95,9 +96,9 @@ pub fn line_fault(known: &Known, m: Marks, line: &[u8], good: bool, ends: &[u16]
         return 0;
     }
     if Sheet::LINE < line.len() || !good {
-        return 10;
+        return Fault::Bytes.number();
     }
-    form_fault(known, m, &Fields { line, ends })
+    crate::faults::number_found(form_fault(known, m, &Fields { line, ends }))
 }
 
 // Whether line 1 is the header of edition 2.
@@ -132,10 +133,10 @@ pub fn header_fault(width: usize, line: &[u8]) -> usize
     ensures { result ≡ header_fault width line.now }
 {
     if Sheet::LINE < line.len() || !text::name::line_bytes(line) {
-        return 10;
+        return Fault::Bytes.number();
     }
     if !headed(width, line) {
-        return 11;
+        return Fault::Header.number();
     }
     0
 }

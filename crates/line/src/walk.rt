@@ -14,7 +14,7 @@ pub fn walk(known: &Known, fields: &Fields, from: usize, l: Lineup) -> Walked
     ensures { WalkedBy (names_in known.now) (dues l) (drop from (fields_in fields.now)) result }
 {
     let mut p = due::ahead::pend(None, 0, 0);
-    let mut fault = 0;
+    let mut fault = Ok(());
     let mut nodes = 0;
     for k in from..fields.ends.len() {
         if due::ahead::none_left(l, p) {

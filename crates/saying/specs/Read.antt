@@ -1,4 +1,5 @@
 -- Concept expressions and rules, read from fields whose names are declared.
+use Rattle.std.specs.Prelude.{Option, Some, None}
 use Rattle.std.specs.Prelude.{List, [], ◌∷◌, ◌++◌, map, ℕ, zero, suc, ◌+◌, ◌-◌, length, drop, replicate}
 use Rattle.std.proofs.lemmas.List.Edits.{sets}
 use Rattle.rule.specs.declared.Head.{Head}
@@ -31,19 +32,19 @@ abbrev pub of_two : (Expr → Expr → Expr) → (List Field → Read) → List 
 of_two g more fs = record { expr = g (more fs).expr (more (more fs).rest).expr; rest = (more (more fs).rest).rest }
 
 -- the expression that begins with the field f, by its word; the fs are the fields after it
-abbrev pub by_word : Names → (List Field → Read) → Operator → Field → List Field → Read
-by_word n more operator.And f fs = of_two both more fs
-by_word n more operator.Or f fs = of_two either more fs
-by_word n more operator.Not f fs = of_one neg more fs
-by_word n more operator.Some f fs = of_one (some (role_use_of n (at 0 fs))) more (drop 1 fs)
-by_word n more operator.All f fs = of_one (every (role_use_of n (at 0 fs))) more (drop 1 fs)
-by_word n more operator.AtLeast f fs = of_one (many (count_of (at 0 fs)) (role_use_of n (at 1 fs))) more (drop 2 fs)
-by_word n more operator.AtMost f fs = of_one (at_most (count_of (at 0 fs)) (role_use_of n (at 1 fs))) more (drop 2 fs)
-by_word n more operator.SelfOf f fs = record { expr = own (role_use_of n (at 0 fs)); rest = drop 1 fs }
-by_word n more operator.One f fs = record { expr = one (item_of n (at 0 fs)); rest = drop 1 fs }
-by_word n more operator.Top f fs = record { expr = top; rest = fs }
-by_word n more operator.Bot f fs = record { expr = bot; rest = fs }
-by_word n more operator.None f fs = record { expr = name (concept_of n f); rest = fs }
+abbrev pub by_word : Names → (List Field → Read) → Option Operator → Field → List Field → Read
+by_word n more (Some operator.And) f fs = of_two both more fs
+by_word n more (Some operator.Or) f fs = of_two either more fs
+by_word n more (Some operator.Not) f fs = of_one neg more fs
+by_word n more (Some operator.Some) f fs = of_one (some (role_use_of n (at 0 fs))) more (drop 1 fs)
+by_word n more (Some operator.All) f fs = of_one (every (role_use_of n (at 0 fs))) more (drop 1 fs)
+by_word n more (Some operator.AtLeast) f fs = of_one (many (count_of (at 0 fs)) (role_use_of n (at 1 fs))) more (drop 2 fs)
+by_word n more (Some operator.AtMost) f fs = of_one (at_most (count_of (at 0 fs)) (role_use_of n (at 1 fs))) more (drop 2 fs)
+by_word n more (Some operator.SelfOf) f fs = record { expr = own (role_use_of n (at 0 fs)); rest = drop 1 fs }
+by_word n more (Some operator.One) f fs = record { expr = one (item_of n (at 0 fs)); rest = drop 1 fs }
+by_word n more (Some operator.Top) f fs = record { expr = top; rest = fs }
+by_word n more (Some operator.Bot) f fs = record { expr = bot; rest = fs }
+by_word n more None f fs = record { expr = name (concept_of n f); rest = fs }
 
 -- the expression in prefix order that the fields begin with, read at most `left` words deep
 unfoldable pub read : ℕ → Names → List Field → Read

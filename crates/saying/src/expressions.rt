@@ -39,12 +39,12 @@ fn put_three(nodes: &mut [Slot; Rule::NODES], len: usize, a: Node, b: Node, c: N
 }
 
 // How many fields a word takes with it, itself counted.
-fn head_fields(o: Operator) -> usize
+fn head_fields(o: Option<Operator>) -> usize
     ensures { result ≡ head_fields o }
 {
     match o {
-        Operator::AtLeast | Operator::AtMost => 3,
-        Operator::Some | Operator::All | Operator::SelfOf | Operator::One => 2,
+        Some(Operator::AtLeast | Operator::AtMost) => 3,
+        Some(Operator::Some | Operator::All | Operator::SelfOf | Operator::One) => 2,
         _ => 1,
     }
 }
@@ -91,48 +91,48 @@ fn put_head(
     nodes: &mut [Slot; Rule::NODES],
     i: usize,
     k: usize,
-    o: Operator,
+    o: Option<Operator>,
 ) -> usize
     requires { (i + nodes_of o ≤ node_limit) × (k < length fields.now.ends.now) }
     ensures { PutAll nodes.old i (head_nodes (names_in known.now) o i (drop k (fields_in fields.now))) nodes.new result }
 {
     match o {
-        Operator::And => put(nodes, i, Node::And(i + 1, 0)),
-        Operator::Or => put_or(nodes, i),
-        Operator::Not => put(nodes, i, Node::Not(i + 1)),
-        Operator::Some => {
+        Some(Operator::And) => put(nodes, i, Node::And(i + 1, 0)),
+        Some(Operator::Or) => put_or(nodes, i),
+        Some(Operator::Not) => put(nodes, i, Node::Not(i + 1)),
+        Some(Operator::Some) => {
             let u = numbers::role_use(known, fields, k + 1);
             put(nodes, i, Node::AtLeast(1, u, i + 1))
         }
-        Operator::All => put_every(nodes, i, numbers::role_use(known, fields, k + 1)),
-        Operator::AtLeast => {
+        Some(Operator::All) => put_every(nodes, i, numbers::role_use(known, fields, k + 1)),
+        Some(Operator::AtLeast) => {
             let u = numbers::role_use(known, fields, k + 2);
             put(nodes, i, Node::AtLeast(count(fields, k + 1), u, i + 1))
         }
-        Operator::AtMost => {
+        Some(Operator::AtMost) => {
             let u = numbers::role_use(known, fields, k + 2);
             let more = Node::AtLeast(count(fields, k + 1) + 1, u, i + 2);
             put_two(nodes, i, Node::Not(i + 1), more)
         }
-        Operator::SelfOf => put(
+        Some(Operator::SelfOf) => put(
             nodes,
             i,
             Node::SelfOf(numbers::role_use(known, fields, k + 1)),
         ),
-        Operator::One => put(nodes, i, Node::One(numbers::item(known, fields, k + 1))),
-        Operator::Top => put(nodes, i, Node::Top),
-        Operator::Bot => put_two(nodes, i, Node::Not(i + 1), Node::Top),
-        Operator::None => put(nodes, i, Node::Name(numbers::concept(known, fields, k))),
+        Some(Operator::One) => put(nodes, i, Node::One(numbers::item(known, fields, k + 1))),
+        Some(Operator::Top) => put(nodes, i, Node::Top),
+        Some(Operator::Bot) => put_two(nodes, i, Node::Not(i + 1), Node::Top),
+        None => put(nodes, i, Node::Name(numbers::concept(known, fields, k))),
     }
 }
 
 // How many expressions a word wants.
-fn children(o: Operator) -> usize
+fn children(o: Option<Operator>) -> usize
     ensures { result ≡ children_of o }
 {
     match o {
-        Operator::And | Operator::Or => 2,
-        Operator::SelfOf | Operator::One | Operator::Top | Operator::Bot | Operator::None => 0,
+        Some(Operator::And | Operator::Or) => 2,
+        Some(Operator::SelfOf | Operator::One | Operator::Top | Operator::Bot) | None => 0,
         _ => 1,
     }
 }
@@ -148,16 +148,16 @@ fn fill_and(nodes: &mut [Slot; Rule::NODES], i: usize, len: usize)
 }
 
 // What stands before the nodes of the second child of a word whose nodes begin at a place; gives how many nodes there are then.
-fn join(o: Operator, nodes: &mut [Slot; Rule::NODES], i: usize, len: usize) -> usize
+fn join(o: Option<Operator>, nodes: &mut [Slot; Rule::NODES], i: usize, len: usize) -> usize
     requires { (i + 1 < node_limit) × (len < node_limit) }
     ensures { Joined o nodes.old i len nodes.new result }
 {
     match o {
-        Operator::And => {
+        Some(Operator::And) => {
             fill_and(nodes, i, len);
             len
         }
-        Operator::Or => {
+        Some(Operator::Or) => {
             fill_and(nodes, i + 1, len);
             put(nodes, len, Node::Not(len + 1))
         }

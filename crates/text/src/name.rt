@@ -2,14 +2,8 @@ ghost use Rattle.std.specs.Prelude.{◌≡◌};
 ghost use Rattle.text.specs.Bytes.{every};
 ghost use Rattle.text.specs.Name.{line_byte, name_byte, is_name};
 
-// A name of a concept, a role or an item.
-#[derive(Drop)]
-pub struct Name {}
-
-impl Name {
-    // The most bytes of a name.
-    pub const BYTES: usize = 24;
-}
+// The most bytes of the name of a concept, a role or an item.
+pub const MOST_BYTES: usize = 24;
 
 // Whether the byte may stand in a name.
 #[tactic(auto, unfolding(crate::specs::Name::name_byte))]
@@ -25,7 +19,7 @@ fn name_byte(b: u8) -> bool
 pub fn is_name(s: &[u8]) -> bool
     ensures { result ≡ is_name s.now }
 {
-    (1..=Name::BYTES).contains(&s.len()) && s.iter().all(|b| name_byte(*b))
+    (1..=MOST_BYTES).contains(&s.len()) && s.iter().all(|b| name_byte(*b))
 }
 
 // Whether the byte may stand in a line.

@@ -1,4 +1,5 @@
 -- Laws of what is due. Assumes nothing.
+use Rattle.std.specs.Prelude.{Option}
 use Rattle.std.specs.Prelude.{◌≡◌, refl, Some, None, true, false, cond, List, [], ◌∷◌, ◌++◌, ℕ, zero, suc, ◌+◌, ◌-◌, ◌≤◌, ◌<◌, min, leb, length, get_or, drop}
 use Rattle.std.proofs.Common.{sym, ◌∙◌, add-one, arith, le-leb, length-take, drop_of_length-le, drop-cons, get_or-take, get_or-drop}
 use Rattle.std.proofs.lemmas.Bool.{lt-leb}
@@ -84,35 +85,35 @@ module _ (l : Lineup) (p : Pending) where
 -- ---- one field more
 
 -- a word of an expression, before m expressions
-before-wants : (o : Operator) (m own : ℕ) (l : Lineup) → pending l (opening o m own) ≡ wanted o ++ before None m (drop own (dues l))
-before-wants operator.And m own l = let k : m + 2 ≡ suc (suc m) = omega arith in rw k
-before-wants operator.Or m own l = let k : m + 2 ≡ suc (suc m) = omega arith in rw k
-before-wants operator.Not m own l = rw add-one
-before-wants operator.Some m own l = rw add-one
-before-wants operator.All m own l = rw add-one
-before-wants operator.AtLeast m own l = rw add-one
-before-wants operator.AtMost m own l = rw add-one
-before-wants operator.SelfOf m own l = refl
-before-wants operator.One m own l = refl
-before-wants operator.Top m own l = refl
-before-wants operator.Bot m own l = refl
-before-wants operator.None m own l = refl
+before-wants : (o : Option Operator) (m own : ℕ) (l : Lineup) → pending l (opening o m own) ≡ wanted o ++ before None m (drop own (dues l))
+before-wants (Some operator.And) m own l = let k : m + 2 ≡ suc (suc m) = omega arith in rw k
+before-wants (Some operator.Or) m own l = let k : m + 2 ≡ suc (suc m) = omega arith in rw k
+before-wants (Some operator.Not) m own l = rw add-one
+before-wants (Some operator.Some) m own l = rw add-one
+before-wants (Some operator.All) m own l = rw add-one
+before-wants (Some operator.AtLeast) m own l = rw add-one
+before-wants (Some operator.AtMost) m own l = rw add-one
+before-wants (Some operator.SelfOf) m own l = refl
+before-wants (Some operator.One) m own l = refl
+before-wants (Some operator.Top) m own l = refl
+before-wants (Some operator.Bot) m own l = refl
+before-wants None m own l = refl
 
-opening-bounds : (o : Operator) (m own : ℕ) → ((opening o m own).exprs ≤ m + 2) × ((opening o m own).own ≡ own)
-opening-bounds operator.And m own = (omega arith, refl)
-opening-bounds operator.Or m own = (omega arith, refl)
-opening-bounds operator.Not m own = (omega arith, refl)
-opening-bounds operator.Some m own = (omega arith, refl)
-opening-bounds operator.All m own = (omega arith, refl)
-opening-bounds operator.AtLeast m own = (omega arith, refl)
-opening-bounds operator.AtMost m own = (omega arith, refl)
-opening-bounds operator.SelfOf m own = (omega arith, refl)
-opening-bounds operator.One m own = (omega arith, refl)
-opening-bounds operator.Top m own = (omega arith, refl)
-opening-bounds operator.Bot m own = (omega arith, refl)
-opening-bounds operator.None m own = (omega arith, refl)
+opening-bounds : (o : Option Operator) (m own : ℕ) → ((opening o m own).exprs ≤ m + 2) × ((opening o m own).own ≡ own)
+opening-bounds (Some operator.And) m own = (omega arith, refl)
+opening-bounds (Some operator.Or) m own = (omega arith, refl)
+opening-bounds (Some operator.Not) m own = (omega arith, refl)
+opening-bounds (Some operator.Some) m own = (omega arith, refl)
+opening-bounds (Some operator.All) m own = (omega arith, refl)
+opening-bounds (Some operator.AtLeast) m own = (omega arith, refl)
+opening-bounds (Some operator.AtMost) m own = (omega arith, refl)
+opening-bounds (Some operator.SelfOf) m own = (omega arith, refl)
+opening-bounds (Some operator.One) m own = (omega arith, refl)
+opening-bounds (Some operator.Top) m own = (omega arith, refl)
+opening-bounds (Some operator.Bot) m own = (omega arith, refl)
+opening-bounds None m own = (omega arith, refl)
 
-module _ (l : Lineup) (p : Pending) (o : Operator) (r : Pending) where
+module _ (l : Lineup) (p : Pending) (o : Option Operator) (r : Pending) where
   -- a field for which no expression was due
   pub step-plain : {d : Due} → pending l p ≡ d ∷ pending l r → is_expr d ≡ false → r.exprs ≤ p.exprs → r.own ≤ p.own → Step l p o r
   step-plain q e h g = record { due = rw q (rw e); exprs = omega arith; own = omega arith }
@@ -127,7 +128,7 @@ module _ (l : Lineup) (p : Pending) (o : Operator) (r : Pending) where
       }
 
 -- one of the line-up's own
-module _ (l : Lineup) (own : ℕ) (o : Operator) (r : Pending) where
+module _ (l : Lineup) (own : ℕ) (o : Option Operator) (r : Pending) where
   abbrev own_pending : Pending
   own_pending = record { lead = None; exprs = 0; own = own }
 
@@ -147,5 +148,5 @@ module _ (l : Lineup) (own : ℕ) (o : Operator) (r : Pending) where
         own = rw q (omega (arith, (opening-bounds o 0 (own + 1)).1));
       }
 
-pub step-from-own : (l : Lineup) (p : Pending) (o : Operator) (r : Pending) → p.lead ≡ None → p.exprs ≤ 0 → Step l (record { lead = None; exprs = 0; own = p.own }) o r → Step l p o r
+pub step-from-own : (l : Lineup) (p : Pending) (o : Option Operator) (r : Pending) → p.lead ≡ None → p.exprs ≤ 0 → Step l (record { lead = None; exprs = 0; own = p.own }) o r → Step l p o r
 step-from-own l p o r e h s = record { due = rw (pend-own l p e h) s.due; exprs = omega (arith, s.exprs); own = s.own }

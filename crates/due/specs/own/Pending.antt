@@ -31,27 +31,27 @@ abbrev pub pending : Lineup → Pending → List Due
 pending l p = before p.lead p.exprs (drop p.own (dues l))
 
 -- what is due after a field with the word o, where the ds were due
-abbrev pub Stepped : List Due → Operator → List Due → Type 0
+abbrev pub Stepped : List Due → Option Operator → List Due → Type 0
 Stepped [] o es = Unit {0}
 Stepped (d ∷ ds) o es = es ≡ cond (is_expr d) (wanted o) [] ++ ds
 
 -- what is still due after a word of an expression, where m expressions were due after that one
-abbrev pub opening : Operator → ℕ → ℕ → Pending
-opening operator.And m own = record { lead = None; exprs = m + 2; own = own }
-opening operator.Or m own = record { lead = None; exprs = m + 2; own = own }
-opening operator.Not m own = record { lead = None; exprs = m + 1; own = own }
-opening operator.Some m own = record { lead = Some lead.RoleUse; exprs = m + 1; own = own }
-opening operator.All m own = record { lead = Some lead.RoleUse; exprs = m + 1; own = own }
-opening operator.AtLeast m own = record { lead = Some lead.AtLeast; exprs = m + 1; own = own }
-opening operator.AtMost m own = record { lead = Some lead.AtMost; exprs = m + 1; own = own }
-opening operator.SelfOf m own = record { lead = Some lead.RoleUse; exprs = m; own = own }
-opening operator.One m own = record { lead = Some lead.Item; exprs = m; own = own }
-opening operator.Top m own = record { lead = None; exprs = m; own = own }
-opening operator.Bot m own = record { lead = None; exprs = m; own = own }
-opening operator.None m own = record { lead = None; exprs = m; own = own }
+abbrev pub opening : Option Operator → ℕ → ℕ → Pending
+opening (Some operator.And) m own = record { lead = None; exprs = m + 2; own = own }
+opening (Some operator.Or) m own = record { lead = None; exprs = m + 2; own = own }
+opening (Some operator.Not) m own = record { lead = None; exprs = m + 1; own = own }
+opening (Some operator.Some) m own = record { lead = Some lead.RoleUse; exprs = m + 1; own = own }
+opening (Some operator.All) m own = record { lead = Some lead.RoleUse; exprs = m + 1; own = own }
+opening (Some operator.AtLeast) m own = record { lead = Some lead.AtLeast; exprs = m + 1; own = own }
+opening (Some operator.AtMost) m own = record { lead = Some lead.AtMost; exprs = m + 1; own = own }
+opening (Some operator.SelfOf) m own = record { lead = Some lead.RoleUse; exprs = m; own = own }
+opening (Some operator.One) m own = record { lead = Some lead.Item; exprs = m; own = own }
+opening (Some operator.Top) m own = record { lead = None; exprs = m; own = own }
+opening (Some operator.Bot) m own = record { lead = None; exprs = m; own = own }
+opening None m own = record { lead = None; exprs = m; own = own }
 
 -- one field more, with the word o: what is still due after it, and bounds
-pub record Step (l : Lineup) (p : Pending) (o : Operator) (r : Pending) : Type 0 where
+pub record Step (l : Lineup) (p : Pending) (o : Option Operator) (r : Pending) : Type 0 where
   pub due : Stepped (pending l p) o (pending l r)
   pub exprs : r.exprs ≤ p.exprs + 2
   pub own : r.own ≤ p.own + 1

@@ -1,8 +1,7 @@
 -- Laws of names, counts and of what is wrong with a field. Assumes nothing.
 use Rattle.std.specs.Prelude.{◌≡◌, true, false, not, List, ℕ, zero, suc, ◌-◌, ◌≤◌, min, leb, ltb, length, get_or, drop}
 use Rattle.std.proofs.Math.Path.{refl}
-use Rattle.std.proofs.Common.{sym, arith, length-drop, take_all}
-use borrow.Author.Tests.{eq-eqb, ne_eqb}
+use Rattle.std.proofs.Common.{sym, arith, length-drop, take_all, eq-eqb, ne_eqb}
 use Rattle.std.proofs.Math.ListN.{get_or-eq_default}
 use Rattle.text.specs.own.Split.{part_of}
 use Rattle.text.specs.Date.{digit, date_shaped}

@@ -1,8 +1,7 @@
 -- What is known of fields with nothing wrong. Assumes nothing.
+use Rattle.std.proofs.lemmas.Bool.{not-false}
 use Rattle.std.specs.Prelude.{◌≡◌, refl, Bool, true, false, not, ◌&&◌, ℕ, zero, suc, ◌≤◌, ◌<◌, leb, length, drop}
-use Rattle.std.proofs.Common.{sym, ◌∙◌, true≢false, arith}
-use mathlib.Core.List.{List, [], ◌∷◌, ◌++◌}
-use borrow.Author.Tests.{ltb-true, ltb-false, leb-false, not-false}
+use Rattle.std.proofs.Common.{sym, ◌∙◌, true≢false, arith, List, [], ◌∷◌, ◌++◌, ltb-true, ltb-false, leb-false}
 use Rattle.text.specs.Bytes.{place}
 use Rattle.text.specs.Date.{date_shaped}
 use Rattle.text.specs.laws.Dates.{dated_before, shaped_by, no-date-before}

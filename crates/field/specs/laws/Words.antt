@@ -1,4 +1,5 @@
 -- Laws of words and of what a line is. Assumes nothing.
+use Rattle.std.specs.Prelude.{Option, Some, None}
 use Rattle.std.specs.Prelude.{◌≡◌, refl, Bool, true, false, cond, List, [], ◌∷◌, ℕ, suc, ◌≤◌, ◌<◌, eqb, ltb, length, drop}
 use Rattle.std.proofs.Common.{sym, ◌∙◌, ap, true≢false, zero-le, arith, le-leb}
 use Rattle.std.proofs.Math.Dec.{leb-suc-suc}
@@ -25,11 +26,11 @@ beyond h n = omega arith
 -- ---- words, by their numbers
 
 -- the number of each word, with what it stands for
-abbrev pub operator_codes : List (ℕ × Operator)
+abbrev pub operator_codes : List (ℕ × Option Operator)
 operator_codes =
-    (23359073, operator.And) ∷ (94831, operator.Or) ∷ (24407918, operator.Not) ∷ (5996638067, operator.Some) ∷ (23882849, operator.All)
-    ∷ (104835553486992481, operator.AtLeast) ∷ (409514116215905, operator.AtMost) ∷ (6013347187, operator.SelfOf) ∷ (23424623, operator.One)
-    ∷ (24145780, operator.Top) ∷ (24407906, operator.Bot) ∷ []
+    (23359073, Some operator.And) ∷ (94831, Some operator.Or) ∷ (24407918, Some operator.Not) ∷ (5996638067, Some operator.Some) ∷ (23882849, Some operator.All)
+    ∷ (104835553486992481, Some operator.AtLeast) ∷ (409514116215905, Some operator.AtMost) ∷ (6013347187, Some operator.SelfOf) ∷ (23424623, Some operator.One)
+    ∷ (24145780, Some operator.Top) ∷ (24407906, Some operator.Bot) ∷ []
 
 abbrev pub line_codes : List (ℕ × Form)
 line_codes =
@@ -69,13 +70,13 @@ rules-small = refl
 
 -- the field f has the number k
 module _ (f : Field) (k : ℕ) (b : Bytes f) (is : k ≡ code_of f) where
-  pub operator-is : (j : ℕ) → k ≡ j → told operator.None operator_codes j ≡ operator_of f
+  pub operator-is : (j : ℕ) → k ≡ j → told None operator_codes j ≡ operator_of f
   unfolding operator_of
-  operator-is = word-is operator.None operator_words operator_codes operators-small operators-numbered f k b is
+  operator-is = word-is None operator_words operator_codes operators-small operators-numbered f k b is
 
-  pub operator-none : NoneOf operator_codes k → operator.None ≡ operator_of f
+  pub operator-none : NoneOf operator_codes k → None ≡ operator_of f
   unfolding operator_of
-  operator-none = word_none operator.None operator_words operator_codes operators-small operators-numbered f k b is
+  operator-none = word_none None operator_words operator_codes operators-small operators-numbered f k b is
 
   pub line-form-is : (j : ℕ) → k ≡ j → told form.Unknown line_codes j ≡ line_form f
   unfolding line_form
@@ -99,18 +100,18 @@ module _ (f : Field) (k : ℕ) (b : Bytes f) (is : k ≡ code_of f) where
 
 -- ---- reserved words
 
-abbrev all_words : List (Field × Operator) → Bool
+abbrev all_words : List (Field × Option Operator) → Bool
 all_words [] = true
 all_words (p ∷ ps) = cond (is_word p.1) (all_words ps) false
 
 -- a field is one of the words exactly if it stands for one
-word-declared : (ps : List (Field × Operator)) (f : Field) → all_words ps ≡ true → is_word (meaning operator.None ps f) ≡ declared f (spellings ps)
+word-declared : (ps : List (Field × Option Operator)) (f : Field) → all_words ps ≡ true → is_word (meaning None ps f) ≡ declared f (spellings ps)
 unfolding place
 word-declared [] f e = refl
 word-declared (p ∷ ps) f e = go (is_word p.1) refl (same f p.0) (word-declared ps f)
   where
-    go : (y : Bool) → is_word p.1 ≡ y → (b : Bool) → (all_words ps ≡ true → is_word (meaning operator.None ps f) ≡ declared f (spellings ps))
-        → is_word (cond b p.1 (meaning operator.None ps f)) ≡ ltb (cond b 0 (suc (place f (spellings ps)))) (suc (length (spellings ps)))
+    go : (y : Bool) → is_word p.1 ≡ y → (b : Bool) → (all_words ps ≡ true → is_word (meaning None ps f) ≡ declared f (spellings ps))
+        → is_word (cond b p.1 (meaning None ps f)) ≡ ltb (cond b 0 (suc (place f (spellings ps)))) (suc (length (spellings ps)))
     go true q true more = q ∙ sym (le-leb 1 (suc (length (spellings ps))) (omega arith))
     go true q false more = more (rw q at e) ∙ sym (leb-suc-suc (suc (place f (spellings ps))) (length (spellings ps)))
     go false q b more = absurd (true≢false (sym (rw q at e)))
@@ -119,7 +120,7 @@ pub word-reserved : (f : Field) → is_word (operator_of f) ≡ reserved f
 unfolding operator_of
 word-reserved f = word-declared operator_words f refl
 
-pub not-reserved : (f : Field) → operator.None ≡ operator_of f → reserved f ≡ false
+pub not-reserved : (f : Field) → None ≡ operator_of f → reserved f ≡ false
 not-reserved f e = sym (word-reserved f) ∙ ap is_word (sym e)
 
 -- ---- what a line is, and how many words it begins with

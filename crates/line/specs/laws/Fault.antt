@@ -1,7 +1,6 @@
 -- Laws of what is wrong with a line. Assumes nothing.
 use Rattle.std.specs.Prelude.{◌≡◌, refl, Bool, true, false, not, List, [], ◌∷◌, ℕ, ◌-◌, ◌≤◌, ◌<◌, ltb, length, drop}
-use Rattle.std.proofs.Common.{sym, ap, ◌∙◌, true≢false, arith, length-drop}
-use borrow.Author.Tests.{lt-ltb, le-ltb}
+use Rattle.std.proofs.Common.{sym, ap, ◌∙◌, true≢false, arith, length-drop, lt-ltb, le-ltb}
 use Rattle.text.specs.Bytes.{every}
 use Rattle.text.specs.Name.{line_byte}
 use Rattle.text.specs.Split.{fields}
@@ -19,6 +18,7 @@ use Rattle.field.specs.own.Table.{Listed, Placed, concept_name}
 use Rattle.field.specs.laws.Names.{concept-name, old-at}
 use Rattle.field.specs.laws.Right.{concept-name-good, listed-good}
 use Rattle.field.specs.laws.Words.{body-words}
+use Rattle.line.specs.own.Number.{found}
 use Rattle.line.specs.own.Walk.{WalkedBy}
 use Rattle.field.specs.Words.{Field, body_of, form_of, section_of}
 
@@ -95,6 +95,6 @@ module _ (n : Names) (m : Marks) (f : Form) (fs : List Field) (count from k : �
   unfolding fields_fault
   fields-wrong e = rw (← along.fit, e)
 
-  pub fields-right : not w.fits ≡ false → lower_fault w.fault (fault (full m (section_of f)) 18 (fault (ltb node_limit w.nodes) 21 0)) ≡ fields_fault n m f body
+  pub fields-right : not w.fits ≡ false → lower_fault (found w.fault) (fault (full m (section_of f)) 18 (fault (ltb node_limit w.nodes) 21 0)) ≡ fields_fault n m f body
   unfolding fields_fault
   fields-right e = rw (← along.fit, e, ← along.fault, ← along.nodes)

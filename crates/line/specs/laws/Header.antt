@@ -1,9 +1,9 @@
 -- Laws of line 1: what is wrong with it, and what it says of a sheet's edition. Assumes nothing.
+use Rattle.std.proofs.lemmas.Bool.{not-false}
 use Rattle.std.specs.Prelude.{◌≡◌, Bool, not, List, ℕ, ◌≤◌, ◌<◌, leb, ltb, length, get_or}
 use Rattle.std.proofs.Math.Path.{refl}
-use Rattle.std.proofs.Common.{sym, ap, ◌∙◌, true≢false, arith}
+use Rattle.std.proofs.Common.{sym, ap, ◌∙◌, true≢false, arith, le-ltb, leb-true, lt-ltb}
 use Rattle.std.proofs.Math.Bool.{true, false}
-use borrow.Author.Tests.{le-ltb, leb-true, lt-ltb, not-false}
 use Rattle.text.specs.Bytes.{bytes, every}
 use Rattle.text.specs.Name.{line_byte}
 use Rattle.text.specs.laws.Bytes.{same_true}

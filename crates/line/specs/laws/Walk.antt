@@ -1,15 +1,17 @@
 -- Laws of the walk along the fields of a line. Assumes nothing.
+use Rattle.std.specs.Prelude.{Option, None}
 use Rattle.std.specs.Prelude.{◌≡◌, refl, Bool, true, false, cond, ℕ, zero, suc, ◌+◌, get_or}
 use Rattle.std.proofs.Math.Path.{sym}
-use Rattle.std.proofs.Common.{ap, ◌∙◌, true≢false, arith}
-use mathlib.Core.List.{List, [], ◌∷◌}
+use Rattle.std.proofs.Common.{ap, ◌∙◌, true≢false, arith, List, [], ◌∷◌}
 use Rattle.field.specs.declared.Due.{Due}
 use Rattle.field.specs.declared.Due.TheVariants as due
 use Rattle.field.specs.declared.Operator.{Operator}
-use Rattle.field.specs.declared.Operator.TheVariants as operator
 use Rattle.field.specs.Due.{fits, is_expr, none, wanted}
 use Rattle.field.specs.Names.{Names, field_fault, field_faults, lower_fault, nodes_in, nodes_of}
 use Rattle.due.specs.own.Pending.{Stepped}
+use Rattle.std.specs.Prelude.{Result}
+use Rattle.line.specs.declared.Fault.{Fault}
+use Rattle.line.specs.own.Number.{found}
 use Rattle.line.specs.own.Walk.{WalkedBy}
 use Rattle.field.specs.Words.{Field, operator_of}
 use Rattle.field.specs.laws.Names.{lower-none, lower-first, lower-assoc}
@@ -28,23 +30,23 @@ module _ (n : Names) (ds : List Due) (fs : List Field) where
   lower-zero zero = sym (lower-none 0 0 refl)
   lower-zero (suc a) = sym (lower-first (suc a) 0 (λ q. omega arith) refl)
 
-  pub along-stop : (es : List Due) (gs : List Field) (f : Field) (a k : ℕ) → none es ≡ true → Along n ds es fs (f ∷ gs) a k → WalkedBy n ds fs (record { fits = false; fault = a; nodes = k })
+  pub along-stop : (es : List Due) (gs : List Field) (f : Field) (a : Result (Unit {0}) Fault) (k : ℕ) → none es ≡ true → Along n ds es fs (f ∷ gs) (found a) k → WalkedBy n ds fs (record { fits = false; fault = a; nodes = k })
   unfolding fits field_faults nodes_in
-  along-stop [] gs f a k e w = record { fit = sym w.fit; fault = sym (w.faults ∙ lower-zero a); nodes = omega (arith, w.nodes) }
+  along-stop [] gs f a k e w = record { fit = sym w.fit; fault = sym (w.faults ∙ lower-zero (found a)); nodes = omega (arith, w.nodes) }
   along-stop (d ∷ es) gs f a k e w = absurd (true≢false (sym e))
 
-  pub along-end : (es : List Due) (a k : ℕ) (b : Bool) → b ≡ none es → Along n ds es fs [] a k → WalkedBy n ds fs (record { fits = b; fault = a; nodes = k })
+  pub along-end : (es : List Due) (a : Result (Unit {0}) Fault) (k : ℕ) (b : Bool) → b ≡ none es → Along n ds es fs [] (found a) k → WalkedBy n ds fs (record { fits = b; fault = a; nodes = k })
   unfolding fits field_faults nodes_in
-  along-end [] a k b e w = record { fit = e ∙ sym w.fit; fault = sym (w.faults ∙ lower-zero a); nodes = omega (arith, w.nodes) }
-  along-end (d ∷ es) a k b e w = record { fit = e ∙ sym w.fit; fault = sym (w.faults ∙ lower-zero a); nodes = omega (arith, w.nodes) }
+  along-end [] a k b e w = record { fit = e ∙ sym w.fit; fault = sym (w.faults ∙ lower-zero (found a)); nodes = omega (arith, w.nodes) }
+  along-end (d ∷ es) a k b e w = record { fit = e ∙ sym w.fit; fault = sym (w.faults ∙ lower-zero (found a)); nodes = omega (arith, w.nodes) }
 
   -- what is told of the word where an expression is due, and only there
-  told-if : {A : Type 0} (b : Bool) (g : Operator → A) (z : A) (o w : Operator) → o ≡ cond b w operator.None → cond b (g o) z ≡ cond b (g w) z
+  told-if : {A : Type 0} (b : Bool) (g : Option Operator → A) (z : A) (o w : Option Operator) → o ≡ cond b w None → cond b (g o) z ≡ cond b (g w) z
   told-if true g z o w q = ap g q
   told-if false g z o w q = refl
 
-  pub along-step : (es es' : List Due) (gs : List Field) (f : Field) (d : Due) (o : Operator) (a b k m : ℕ) → none es ≡ false → Stepped es o es' → d ≡ get_or es 0 due.Nothing
-      → o ≡ cond (is_expr d) (operator_of f) operator.None → b ≡ lower_fault a (field_fault n d f) → m ≡ cond (is_expr d) (nodes_of o) 0 → Along n ds es fs (f ∷ gs) a k → Along n ds es' fs gs b (k + m)
+  pub along-step : (es es' : List Due) (gs : List Field) (f : Field) (d : Due) (o : Option Operator) (a b k m : ℕ) → none es ≡ false → Stepped es o es' → d ≡ get_or es 0 due.Nothing
+      → o ≡ cond (is_expr d) (operator_of f) None → b ≡ lower_fault a (field_fault n d f) → m ≡ cond (is_expr d) (nodes_of o) 0 → Along n ds es fs (f ∷ gs) a k → Along n ds es' fs gs b (k + m)
   unfolding fits field_faults nodes_in
   along-step [] es' gs f d o a b k m z s h q p r w = absurd (true≢false z)
   along-step (x ∷ es) es' gs f d o a b k m z s h q p r w =

@@ -1,4 +1,5 @@
 -- Laws of writing an expression's nodes word by word. Assumes nothing.
+use Rattle.std.specs.Prelude.{Option, Some, None}
 use Rattle.std.specs.Prelude.{◌≡◌, map, ℕ, zero, suc, ◌+◌, ◌<◌, drop, set}
 use Rattle.std.proofs.Common.{refl, sym, ◌∙◌, ap, add-zero, set-set, List, [], ◌∷◌, ◌++◌, append_assoc, add-one, arith, length, length-append}
 use Rattle.std.proofs.lemmas.List.{length-map, map-append, set_comm}
@@ -63,62 +64,62 @@ nodes-length i (one a) = refl
 
 module _ (n : Names) (more : List Field → Read) (i : ℕ) (fs : List Field) where
   -- the expression that begins with the word o
-  abbrev whole : Operator → Read
+  abbrev whole : Option Operator → Read
   whole o = by_word n more o (at 0 fs) (drop 1 fs)
 
   -- a word without children
-  pub leaf-nodes : (o : Operator) → children_of o ≡ 0 → (head_nodes n o i fs ≡ nodes_at i (whole o).expr) × (length (head_nodes n o i fs) ≡ size (whole o).expr) × (drop (head_fields o) fs ≡ (whole o).rest)
+  pub leaf-nodes : (o : Option Operator) → children_of o ≡ 0 → (head_nodes n o i fs ≡ nodes_at i (whole o).expr) × (length (head_nodes n o i fs) ≡ size (whole o).expr) × (drop (head_fields o) fs ≡ (whole o).rest)
   unfolding nodes_at size
-  leaf-nodes operator.And e = absurd (omega arith)
-  leaf-nodes operator.Or e = absurd (omega arith)
-  leaf-nodes operator.Not e = absurd (omega arith)
-  leaf-nodes operator.Some e = absurd (omega arith)
-  leaf-nodes operator.All e = absurd (omega arith)
-  leaf-nodes operator.AtLeast e = absurd (omega arith)
-  leaf-nodes operator.AtMost e = absurd (omega arith)
-  leaf-nodes operator.SelfOf e = (rw (at_one fs), refl, drop-later 1 fs)
-  leaf-nodes operator.One e = (rw (at_one fs), refl, drop-later 1 fs)
-  leaf-nodes operator.Top e = (refl, refl, refl)
-  leaf-nodes operator.Bot e = (refl, refl, refl)
-  leaf-nodes operator.None e = (refl, refl, refl)
+  leaf-nodes (Some operator.And) e = absurd (omega arith)
+  leaf-nodes (Some operator.Or) e = absurd (omega arith)
+  leaf-nodes (Some operator.Not) e = absurd (omega arith)
+  leaf-nodes (Some operator.Some) e = absurd (omega arith)
+  leaf-nodes (Some operator.All) e = absurd (omega arith)
+  leaf-nodes (Some operator.AtLeast) e = absurd (omega arith)
+  leaf-nodes (Some operator.AtMost) e = absurd (omega arith)
+  leaf-nodes (Some operator.SelfOf) e = (rw (at_one fs), refl, drop-later 1 fs)
+  leaf-nodes (Some operator.One) e = (rw (at_one fs), refl, drop-later 1 fs)
+  leaf-nodes (Some operator.Top) e = (refl, refl, refl)
+  leaf-nodes (Some operator.Bot) e = (refl, refl, refl)
+  leaf-nodes None e = (refl, refl, refl)
 
   -- a word with one child
-  pub one-nodes : (o : Operator) → children_of o ≡ 1
+  pub one-nodes : (o : Option Operator) → children_of o ≡ 1
       → (nodes_at i (whole o).expr ≡ head_nodes n o i fs ++ nodes_at (i + length (head_nodes n o i fs)) (more (drop (head_fields o) fs)).expr)
       × (size (whole o).expr ≡ length (head_nodes n o i fs) + size (more (drop (head_fields o) fs)).expr) × ((whole o).rest ≡ (more (drop (head_fields o) fs)).rest)
   unfolding nodes_at size
-  one-nodes operator.And e = absurd (omega arith)
-  one-nodes operator.Or e = absurd (omega arith)
-  one-nodes operator.Not e = (refl, refl, refl)
-  one-nodes operator.Some e = (rw (at_one fs, drop-later 1 fs), rw (drop-later 1 fs), rw (drop-later 1 fs))
-  one-nodes operator.All e =
+  one-nodes (Some operator.And) e = absurd (omega arith)
+  one-nodes (Some operator.Or) e = absurd (omega arith)
+  one-nodes (Some operator.Not) e = (refl, refl, refl)
+  one-nodes (Some operator.Some) e = (rw (at_one fs, drop-later 1 fs), rw (drop-later 1 fs), rw (drop-later 1 fs))
+  one-nodes (Some operator.All) e =
       let x : i + 1 + 1 ≡ i + 2 = omega arith in
       let y : i + 2 + 1 ≡ i + 3 = omega arith in
       (rw (at_one fs, drop-later 1 fs, x, y), rw (drop-later 1 fs) (omega arith), rw (drop-later 1 fs))
-  one-nodes operator.AtLeast e = (rw (at_one fs, at-two fs, drop-later 2 fs), rw (drop-later 2 fs), rw (drop-later 2 fs))
-  one-nodes operator.AtMost e =
+  one-nodes (Some operator.AtLeast) e = (rw (at_one fs, at-two fs, drop-later 2 fs), rw (drop-later 2 fs), rw (drop-later 2 fs))
+  one-nodes (Some operator.AtMost) e =
       let x : i + 1 + 1 ≡ i + 2 = omega arith in
       (rw (at_one fs, at-two fs, drop-later 2 fs, x, add-one (count_of (at 0 (drop 1 fs)))), rw (drop-later 2 fs) (omega arith), rw (drop-later 2 fs))
-  one-nodes operator.SelfOf e = absurd (omega arith)
-  one-nodes operator.One e = absurd (omega arith)
-  one-nodes operator.Top e = absurd (omega arith)
-  one-nodes operator.Bot e = absurd (omega arith)
-  one-nodes operator.None e = absurd (omega arith)
+  one-nodes (Some operator.SelfOf) e = absurd (omega arith)
+  one-nodes (Some operator.One) e = absurd (omega arith)
+  one-nodes (Some operator.Top) e = absurd (omega arith)
+  one-nodes (Some operator.Bot) e = absurd (omega arith)
+  one-nodes None e = absurd (omega arith)
 
   -- a word with two children: what stands before the nodes of the second, where c is the first
-  abbrev pub front : Operator → Expr → List Node
-  front operator.And c = node.And (i + 1) (i + 1 + size c) ∷ nodes_at (i + 1) c
-  front operator.Or c = node.Not (i + 1) ∷ node.And (i + 2) (i + 3 + size c) ∷ node.Not (i + 3) ∷ nodes_at (i + 3) c ++ (node.Not (i + 3 + size c + 1) ∷ [])
-  front operator.Not c = []
-  front operator.Some c = []
-  front operator.All c = []
-  front operator.AtLeast c = []
-  front operator.AtMost c = []
-  front operator.SelfOf c = []
-  front operator.One c = []
-  front operator.Top c = []
-  front operator.Bot c = []
-  front operator.None c = []
+  abbrev pub front : Option Operator → Expr → List Node
+  front (Some operator.And) c = node.And (i + 1) (i + 1 + size c) ∷ nodes_at (i + 1) c
+  front (Some operator.Or) c = node.Not (i + 1) ∷ node.And (i + 2) (i + 3 + size c) ∷ node.Not (i + 3) ∷ nodes_at (i + 3) c ++ (node.Not (i + 3 + size c + 1) ∷ [])
+  front (Some operator.Not) c = []
+  front (Some operator.Some) c = []
+  front (Some operator.All) c = []
+  front (Some operator.AtLeast) c = []
+  front (Some operator.AtMost) c = []
+  front (Some operator.SelfOf) c = []
+  front (Some operator.One) c = []
+  front (Some operator.Top) c = []
+  front (Some operator.Bot) c = []
+  front None c = []
 
   module _ (arr : List Slot) where
     -- the `and` of the first node, and that of the second, gets its second child
@@ -131,12 +132,12 @@ module _ (n : Names) (more : List Field → Read) (i : ℕ) (fs : List Field) wh
         rw z (sets-set arr i 1 (slot (node.And (i + 2) b)) (map slot (x ∷ node.And (i + 2) 0 ∷ xs)) (omega arith))
 
     -- the nodes of the first child after the word's own, then the word's `and` filled in
-    pub join-nodes : (o : Operator) (c : Expr) (nodes : List Slot) (len : ℕ) (exit : List Slot) (r : ℕ) → children_of o ≡ 2
+    pub join-nodes : (o : Option Operator) (c : Expr) (nodes : List Slot) (len : ℕ) (exit : List Slot) (r : ℕ) → children_of o ≡ 2
         → nodes ≡ sets arr i (map slot (head_nodes n o i fs ++ nodes_at (i + length (head_nodes n o i fs)) c)) → len ≡ i + length (head_nodes n o i fs) + size c → Joined o nodes i len exit r
         → PutAll arr i (front o c) exit r
-    join-nodes operator.And c nodes len exit r e h l j =
+    join-nodes (Some operator.And) c nodes len exit r e h l j =
         record { here = j.here ∙ rw (h, l) (and_first (i + 1 + size c) (nodes_at (i + 1) c)); count = omega (arith, j.count, l, nodes-length (i + 1) c) }
-    join-nodes operator.Or c nodes len exit r e h l j =
+    join-nodes (Some operator.Or) c nodes len exit r e h l j =
         let xs : List Node = node.Not (i + 1) ∷ node.And (i + 2) (i + 3 + size c) ∷ node.Not (i + 3) ∷ nodes_at (i + 3) c in
         let k : i + 3 + size c ≡ i + length xs = omega (arith, nodes-length (i + 3) c) in
         record {
@@ -145,33 +146,33 @@ module _ (n : Names) (more : List Field → Read) (i : ℕ) (fs : List Field) wh
               (slots-both arr i (i + 3 + size c) xs (node.Not (i + 3 + size c + 1) ∷ []) k));
           count = omega (arith, j.count, l, k, length-append (nodes_at (i + 3) c) (node.Not (i + 3 + size c + 1) ∷ []));
         }
-    join-nodes operator.Not c nodes len exit r e h l j = absurd (omega arith)
-    join-nodes operator.Some c nodes len exit r e h l j = absurd (omega arith)
-    join-nodes operator.All c nodes len exit r e h l j = absurd (omega arith)
-    join-nodes operator.AtLeast c nodes len exit r e h l j = absurd (omega arith)
-    join-nodes operator.AtMost c nodes len exit r e h l j = absurd (omega arith)
-    join-nodes operator.SelfOf c nodes len exit r e h l j = absurd (omega arith)
-    join-nodes operator.One c nodes len exit r e h l j = absurd (omega arith)
-    join-nodes operator.Top c nodes len exit r e h l j = absurd (omega arith)
-    join-nodes operator.Bot c nodes len exit r e h l j = absurd (omega arith)
-    join-nodes operator.None c nodes len exit r e h l j = absurd (omega arith)
+    join-nodes (Some operator.Not) c nodes len exit r e h l j = absurd (omega arith)
+    join-nodes (Some operator.Some) c nodes len exit r e h l j = absurd (omega arith)
+    join-nodes (Some operator.All) c nodes len exit r e h l j = absurd (omega arith)
+    join-nodes (Some operator.AtLeast) c nodes len exit r e h l j = absurd (omega arith)
+    join-nodes (Some operator.AtMost) c nodes len exit r e h l j = absurd (omega arith)
+    join-nodes (Some operator.SelfOf) c nodes len exit r e h l j = absurd (omega arith)
+    join-nodes (Some operator.One) c nodes len exit r e h l j = absurd (omega arith)
+    join-nodes (Some operator.Top) c nodes len exit r e h l j = absurd (omega arith)
+    join-nodes (Some operator.Bot) c nodes len exit r e h l j = absurd (omega arith)
+    join-nodes None c nodes len exit r e h l j = absurd (omega arith)
 
   -- the whole expression: what stands before the second child, and the second child
-  pub two-nodes : (o : Operator) → children_of o ≡ 2
+  pub two-nodes : (o : Option Operator) → children_of o ≡ 2
       → (nodes_at i (whole o).expr ≡ front o (more (drop 1 fs)).expr ++ nodes_at (i + length (front o (more (drop 1 fs)).expr)) (more (more (drop 1 fs)).rest).expr)
       × (size (whole o).expr ≡ length (front o (more (drop 1 fs)).expr) + size (more (more (drop 1 fs)).rest).expr) × ((whole o).rest ≡ (more (more (drop 1 fs)).rest).rest) × (head_fields o ≡ 1)
   unfolding nodes_at size
-  two-nodes operator.And e =
+  two-nodes (Some operator.And) e =
       let c = (more (drop 1 fs)).expr in
-      let k : i + 1 + size c ≡ i + length (front operator.And c) = omega (arith, nodes-length (i + 1) c) in
+      let k : i + 1 + size c ≡ i + length (front (Some operator.And) c) = omega (arith, nodes-length (i + 1) c) in
       (rw (← k), omega (arith, nodes-length (i + 1) c), refl, refl)
-  two-nodes operator.Or e =
+  two-nodes (Some operator.Or) e =
       let c = (more (drop 1 fs)).expr in
       let x : i + 1 + 1 ≡ i + 2 = omega arith in
       let y : i + 2 + 1 ≡ i + 3 = omega arith in
       let u : i + 2 + (1 + size c) ≡ i + 3 + size c = omega arith in
       let l = length-append (nodes_at (i + 3) c) (node.Not (i + 3 + size c + 1) ∷ []) in
-      let v : i + length (front operator.Or c) ≡ i + 3 + size c + 1 = omega (arith, l, nodes-length (i + 3) c) in
+      let v : i + length (front (Some operator.Or) c) ≡ i + 3 + size c + 1 = omega (arith, l, nodes-length (i + 3) c) in
       let d = (more (more (drop 1 fs)).rest).expr in (
         rw (x, y, u, v)
             (ap (λ (ns : List Node). node.Not (i + 1) ∷ node.And (i + 2) (i + 3 + size c) ∷ node.Not (i + 3) ∷ ns)
@@ -180,13 +181,13 @@ module _ (n : Names) (more : List Field → Read) (i : ℕ) (fs : List Field) wh
         refl,
         refl,
       )
-  two-nodes operator.Not e = absurd (omega arith)
-  two-nodes operator.Some e = absurd (omega arith)
-  two-nodes operator.All e = absurd (omega arith)
-  two-nodes operator.AtLeast e = absurd (omega arith)
-  two-nodes operator.AtMost e = absurd (omega arith)
-  two-nodes operator.SelfOf e = absurd (omega arith)
-  two-nodes operator.One e = absurd (omega arith)
-  two-nodes operator.Top e = absurd (omega arith)
-  two-nodes operator.Bot e = absurd (omega arith)
-  two-nodes operator.None e = absurd (omega arith)
+  two-nodes (Some operator.Not) e = absurd (omega arith)
+  two-nodes (Some operator.Some) e = absurd (omega arith)
+  two-nodes (Some operator.All) e = absurd (omega arith)
+  two-nodes (Some operator.AtLeast) e = absurd (omega arith)
+  two-nodes (Some operator.AtMost) e = absurd (omega arith)
+  two-nodes (Some operator.SelfOf) e = absurd (omega arith)
+  two-nodes (Some operator.One) e = absurd (omega arith)
+  two-nodes (Some operator.Top) e = absurd (omega arith)
+  two-nodes (Some operator.Bot) e = absurd (omega arith)
+  two-nodes None e = absurd (omega arith)

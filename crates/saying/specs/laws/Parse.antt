@@ -1,4 +1,5 @@
 -- Laws of reading one expression into nodes, word by word. Assumes nothing.
+use Rattle.std.specs.Prelude.{Option, Some, None}
 use Rattle.std.specs.Prelude.{◌≡◌, refl, true, List, [], ◌∷◌, ◌++◌, map, ℕ, zero, suc, ◌+◌, ◌-◌, ◌≤◌, ◌<◌, drop, length}
 use Rattle.std.proofs.Common.{sym, ◌∙◌, true≢false, arith, length-append, length-drop, drop-drop}
 use Rattle.std.proofs.lemmas.List.Edits.{sets}
@@ -28,119 +29,119 @@ unfolding fits nodes_in
 first_word ds [] h = absurd (true≢false (sym h))
 first_word ds (f ∷ fs) h = (h, refl, refl)
 
-nodes-some : (o : Operator) → 1 ≤ nodes_of o
-nodes-some operator.And = omega arith
-nodes-some operator.Or = omega arith
-nodes-some operator.Not = omega arith
-nodes-some operator.Some = omega arith
-nodes-some operator.All = omega arith
-nodes-some operator.AtLeast = omega arith
-nodes-some operator.AtMost = omega arith
-nodes-some operator.SelfOf = omega arith
-nodes-some operator.One = omega arith
-nodes-some operator.Top = omega arith
-nodes-some operator.Bot = omega arith
-nodes-some operator.None = omega arith
+nodes-some : (o : Option Operator) → 1 ≤ nodes_of o
+nodes-some (Some operator.And) = omega arith
+nodes-some (Some operator.Or) = omega arith
+nodes-some (Some operator.Not) = omega arith
+nodes-some (Some operator.Some) = omega arith
+nodes-some (Some operator.All) = omega arith
+nodes-some (Some operator.AtLeast) = omega arith
+nodes-some (Some operator.AtMost) = omega arith
+nodes-some (Some operator.SelfOf) = omega arith
+nodes-some (Some operator.One) = omega arith
+nodes-some (Some operator.Top) = omega arith
+nodes-some (Some operator.Bot) = omega arith
+nodes-some None = omega arith
 
 -- an expression has a node
 expr-some : (ds : List Due) (fs : List Field) → fits (due.Expr ∷ ds) fs ≡ true → 1 ≤ nodes_in (due.Expr ∷ ds) fs
 expr-some ds fs h = omega (arith, (first_word ds fs h).1, nodes-some (operator_of (at 0 fs)))
 
 -- the only child of a word, after what the word takes with it
-one-child : (o : Operator) (ds : List Due) (fs : List Field) → children_of o ≡ 1 → fits (wanted o ++ ds) (drop 1 fs) ≡ true
+one-child : (o : Option Operator) (ds : List Due) (fs : List Field) → children_of o ≡ 1 → fits (wanted o ++ ds) (drop 1 fs) ≡ true
     → (fits (due.Expr ∷ ds) (drop (head_fields o) fs) ≡ true) × (nodes_in (wanted o ++ ds) (drop 1 fs) ≡ nodes_in (due.Expr ∷ ds) (drop (head_fields o) fs)) × (length (drop (head_fields o) fs) ≤ length (drop 1 fs))
-one-child operator.And ds fs e h = absurd (omega arith)
-one-child operator.Or ds fs e h = absurd (omega arith)
-one-child operator.Not ds fs e h = (h, refl, omega arith)
-one-child operator.Some ds fs e h = let p = plain-field due.RoleUse (due.Expr ∷ ds) (drop 1 fs) refl h in rw (drop-later 1 fs) (p.0, p.1, omega (arith, p.2))
-one-child operator.All ds fs e h = let p = plain-field due.RoleUse (due.Expr ∷ ds) (drop 1 fs) refl h in rw (drop-later 1 fs) (p.0, p.1, omega (arith, p.2))
-one-child operator.AtLeast ds fs e h =
+one-child (Some operator.And) ds fs e h = absurd (omega arith)
+one-child (Some operator.Or) ds fs e h = absurd (omega arith)
+one-child (Some operator.Not) ds fs e h = (h, refl, omega arith)
+one-child (Some operator.Some) ds fs e h = let p = plain-field due.RoleUse (due.Expr ∷ ds) (drop 1 fs) refl h in rw (drop-later 1 fs) (p.0, p.1, omega (arith, p.2))
+one-child (Some operator.All) ds fs e h = let p = plain-field due.RoleUse (due.Expr ∷ ds) (drop 1 fs) refl h in rw (drop-later 1 fs) (p.0, p.1, omega (arith, p.2))
+one-child (Some operator.AtLeast) ds fs e h =
     let p = plain-field due.AtLeast (due.RoleUse ∷ due.Expr ∷ ds) (drop 1 fs) refl h in
     let q = plain-field due.RoleUse (due.Expr ∷ ds) (drop 1 (drop 1 fs)) refl p.0 in
     rw (drop-later 2 fs, drop-two (drop 1 fs)) (q.0, p.1 ∙ q.1, omega (arith, p.2, q.2))
-one-child operator.AtMost ds fs e h =
+one-child (Some operator.AtMost) ds fs e h =
     let p = plain-field due.AtMost (due.RoleUse ∷ due.Expr ∷ ds) (drop 1 fs) refl h in
     let q = plain-field due.RoleUse (due.Expr ∷ ds) (drop 1 (drop 1 fs)) refl p.0 in
     rw (drop-later 2 fs, drop-two (drop 1 fs)) (q.0, p.1 ∙ q.1, omega (arith, p.2, q.2))
-one-child operator.SelfOf ds fs e h = absurd (omega arith)
-one-child operator.One ds fs e h = absurd (omega arith)
-one-child operator.Top ds fs e h = absurd (omega arith)
-one-child operator.Bot ds fs e h = absurd (omega arith)
-one-child operator.None ds fs e h = absurd (omega arith)
+one-child (Some operator.SelfOf) ds fs e h = absurd (omega arith)
+one-child (Some operator.One) ds fs e h = absurd (omega arith)
+one-child (Some operator.Top) ds fs e h = absurd (omega arith)
+one-child (Some operator.Bot) ds fs e h = absurd (omega arith)
+one-child None ds fs e h = absurd (omega arith)
 
 -- a word with two children wants two expressions, and has at least one node beside theirs
-two-children : (o : Operator) → children_of o ≡ 2 → (wanted o ≡ due.Expr ∷ due.Expr ∷ []) × (head_fields o ≡ 1)
-two-children operator.And e = (refl, refl)
-two-children operator.Or e = (refl, refl)
-two-children operator.Not e = absurd (omega arith)
-two-children operator.Some e = absurd (omega arith)
-two-children operator.All e = absurd (omega arith)
-two-children operator.AtLeast e = absurd (omega arith)
-two-children operator.AtMost e = absurd (omega arith)
-two-children operator.SelfOf e = absurd (omega arith)
-two-children operator.One e = absurd (omega arith)
-two-children operator.Top e = absurd (omega arith)
-two-children operator.Bot e = absurd (omega arith)
-two-children operator.None e = absurd (omega arith)
+two-children : (o : Option Operator) → children_of o ≡ 2 → (wanted o ≡ due.Expr ∷ due.Expr ∷ []) × (head_fields o ≡ 1)
+two-children (Some operator.And) e = (refl, refl)
+two-children (Some operator.Or) e = (refl, refl)
+two-children (Some operator.Not) e = absurd (omega arith)
+two-children (Some operator.Some) e = absurd (omega arith)
+two-children (Some operator.All) e = absurd (omega arith)
+two-children (Some operator.AtLeast) e = absurd (omega arith)
+two-children (Some operator.AtMost) e = absurd (omega arith)
+two-children (Some operator.SelfOf) e = absurd (omega arith)
+two-children (Some operator.One) e = absurd (omega arith)
+two-children (Some operator.Top) e = absurd (omega arith)
+two-children (Some operator.Bot) e = absurd (omega arith)
+two-children None e = absurd (omega arith)
 
-two-at-most : (o : Operator) (k : ℕ) → children_of o ≡ suc (suc k) → children_of o ≡ 2
-two-at-most operator.And k e = refl
-two-at-most operator.Or k e = refl
-two-at-most operator.Not k e = absurd (omega arith)
-two-at-most operator.Some k e = absurd (omega arith)
-two-at-most operator.All k e = absurd (omega arith)
-two-at-most operator.AtLeast k e = absurd (omega arith)
-two-at-most operator.AtMost k e = absurd (omega arith)
-two-at-most operator.SelfOf k e = absurd (omega arith)
-two-at-most operator.One k e = absurd (omega arith)
-two-at-most operator.Top k e = absurd (omega arith)
-two-at-most operator.Bot k e = absurd (omega arith)
-two-at-most operator.None k e = absurd (omega arith)
+two-at-most : (o : Option Operator) (k : ℕ) → children_of o ≡ suc (suc k) → children_of o ≡ 2
+two-at-most (Some operator.And) k e = refl
+two-at-most (Some operator.Or) k e = refl
+two-at-most (Some operator.Not) k e = absurd (omega arith)
+two-at-most (Some operator.Some) k e = absurd (omega arith)
+two-at-most (Some operator.All) k e = absurd (omega arith)
+two-at-most (Some operator.AtLeast) k e = absurd (omega arith)
+two-at-most (Some operator.AtMost) k e = absurd (omega arith)
+two-at-most (Some operator.SelfOf) k e = absurd (omega arith)
+two-at-most (Some operator.One) k e = absurd (omega arith)
+two-at-most (Some operator.Top) k e = absurd (omega arith)
+two-at-most (Some operator.Bot) k e = absurd (omega arith)
+two-at-most None k e = absurd (omega arith)
 
 -- of the nodes of a word some are written at once, and with two children the others before the second
-head_few : (n : Names) (o : Operator) (i : ℕ) (fs : List Field) → length (head_nodes n o i fs) ≤ nodes_of o
-head_few n operator.And i fs = omega arith
-head_few n operator.Or i fs = omega arith
-head_few n operator.Not i fs = omega arith
-head_few n operator.Some i fs = omega arith
-head_few n operator.All i fs = omega arith
-head_few n operator.AtLeast i fs = omega arith
-head_few n operator.AtMost i fs = omega arith
-head_few n operator.SelfOf i fs = omega arith
-head_few n operator.One i fs = omega arith
-head_few n operator.Top i fs = omega arith
-head_few n operator.Bot i fs = omega arith
-head_few n operator.None i fs = omega arith
+head_few : (n : Names) (o : Option Operator) (i : ℕ) (fs : List Field) → length (head_nodes n o i fs) ≤ nodes_of o
+head_few n (Some operator.And) i fs = omega arith
+head_few n (Some operator.Or) i fs = omega arith
+head_few n (Some operator.Not) i fs = omega arith
+head_few n (Some operator.Some) i fs = omega arith
+head_few n (Some operator.All) i fs = omega arith
+head_few n (Some operator.AtLeast) i fs = omega arith
+head_few n (Some operator.AtMost) i fs = omega arith
+head_few n (Some operator.SelfOf) i fs = omega arith
+head_few n (Some operator.One) i fs = omega arith
+head_few n (Some operator.Top) i fs = omega arith
+head_few n (Some operator.Bot) i fs = omega arith
+head_few n None i fs = omega arith
 
 -- and few fields are passed with it
-pub fields-few : (o : Operator) → head_fields o ≤ 3
-fields-few operator.And = omega arith
-fields-few operator.Or = omega arith
-fields-few operator.Not = omega arith
-fields-few operator.Some = omega arith
-fields-few operator.All = omega arith
-fields-few operator.AtLeast = omega arith
-fields-few operator.AtMost = omega arith
-fields-few operator.SelfOf = omega arith
-fields-few operator.One = omega arith
-fields-few operator.Top = omega arith
-fields-few operator.Bot = omega arith
-fields-few operator.None = omega arith
+pub fields-few : (o : Option Operator) → head_fields o ≤ 3
+fields-few (Some operator.And) = omega arith
+fields-few (Some operator.Or) = omega arith
+fields-few (Some operator.Not) = omega arith
+fields-few (Some operator.Some) = omega arith
+fields-few (Some operator.All) = omega arith
+fields-few (Some operator.AtLeast) = omega arith
+fields-few (Some operator.AtMost) = omega arith
+fields-few (Some operator.SelfOf) = omega arith
+fields-few (Some operator.One) = omega arith
+fields-few (Some operator.Top) = omega arith
+fields-few (Some operator.Bot) = omega arith
+fields-few None = omega arith
 
 -- a word with two children: what stands before the second has all the word's nodes and those of the first
-front_length : (n : Names) (o : Operator) (more : List Field → Read) (i : ℕ) (fs : List Field) (c : Expr) → children_of o ≡ 2 → length (front n more i fs o c) ≡ nodes_of o + size c
-front_length n operator.And more i fs c e = rw (nodes-length (i + 1) c) (omega arith)
-front_length n operator.Or more i fs c e = omega (arith, length-append (nodes_at (i + 3) c) (node.Not (i + 3 + size c + 1) ∷ []), nodes-length (i + 3) c)
-front_length n operator.Not more i fs c e = absurd (omega arith)
-front_length n operator.Some more i fs c e = absurd (omega arith)
-front_length n operator.All more i fs c e = absurd (omega arith)
-front_length n operator.AtLeast more i fs c e = absurd (omega arith)
-front_length n operator.AtMost more i fs c e = absurd (omega arith)
-front_length n operator.SelfOf more i fs c e = absurd (omega arith)
-front_length n operator.One more i fs c e = absurd (omega arith)
-front_length n operator.Top more i fs c e = absurd (omega arith)
-front_length n operator.Bot more i fs c e = absurd (omega arith)
-front_length n operator.None more i fs c e = absurd (omega arith)
+front_length : (n : Names) (o : Option Operator) (more : List Field → Read) (i : ℕ) (fs : List Field) (c : Expr) → children_of o ≡ 2 → length (front n more i fs o c) ≡ nodes_of o + size c
+front_length n (Some operator.And) more i fs c e = rw (nodes-length (i + 1) c) (omega arith)
+front_length n (Some operator.Or) more i fs c e = omega (arith, length-append (nodes_at (i + 3) c) (node.Not (i + 3 + size c + 1) ∷ []), nodes-length (i + 3) c)
+front_length n (Some operator.Not) more i fs c e = absurd (omega arith)
+front_length n (Some operator.Some) more i fs c e = absurd (omega arith)
+front_length n (Some operator.All) more i fs c e = absurd (omega arith)
+front_length n (Some operator.AtLeast) more i fs c e = absurd (omega arith)
+front_length n (Some operator.AtMost) more i fs c e = absurd (omega arith)
+front_length n (Some operator.SelfOf) more i fs c e = absurd (omega arith)
+front_length n (Some operator.One) more i fs c e = absurd (omega arith)
+front_length n (Some operator.Top) more i fs c e = absurd (omega arith)
+front_length n (Some operator.Bot) more i fs c e = absurd (omega arith)
+front_length n None more i fs c e = absurd (omega arith)
 
 pub size-some : (e : Expr) → 1 ≤ size e
 unfolding size
@@ -157,7 +158,7 @@ unfolding read
 read_step n zero fs h = absurd (h refl)
 read_step n (suc left) fs h = let z : suc left - 1 ≡ left = omega arith in rw z
 
-module _ (n : Names) (all : List Field) (left : ℕ) (p : Parsed) (o : Operator) (rd : Ready (drop p.at all) p.len left) (some : left ≡ 0 → ⊥) (is : o ≡ operator_of (at 0 (drop p.at all))) where
+module _ (n : Names) (all : List Field) (left : ℕ) (p : Parsed) (o : Option Operator) (rd : Ready (drop p.at all) p.len left) (some : left ≡ 0 → ⊥) (is : o ≡ operator_of (at 0 (drop p.at all))) where
   abbrev fs : List Field
   fs = drop p.at all
 
@@ -281,16 +282,16 @@ pub ready-inside : (fs : List Field) (k : ℕ) {len left : ℕ} → Ready (drop 
 ready-inside fs k rd = omega (arith, (first_word rd.dues (drop k fs) rd.fit).2, length-drop k fs)
 
 -- neither none nor one: two
-pub two-else : (o : Operator) → (children_of o ≡ 0 → ⊥) → (children_of o ≡ 1 → ⊥) → children_of o ≡ 2
-two-else operator.And z s = refl
-two-else operator.Or z s = refl
-two-else operator.Not z s = absurd (s refl)
-two-else operator.Some z s = absurd (s refl)
-two-else operator.All z s = absurd (s refl)
-two-else operator.AtLeast z s = absurd (s refl)
-two-else operator.AtMost z s = absurd (s refl)
-two-else operator.SelfOf z s = absurd (z refl)
-two-else operator.One z s = absurd (z refl)
-two-else operator.Top z s = absurd (z refl)
-two-else operator.Bot z s = absurd (z refl)
-two-else operator.None z s = absurd (z refl)
+pub two-else : (o : Option Operator) → (children_of o ≡ 0 → ⊥) → (children_of o ≡ 1 → ⊥) → children_of o ≡ 2
+two-else (Some operator.And) z s = refl
+two-else (Some operator.Or) z s = refl
+two-else (Some operator.Not) z s = absurd (s refl)
+two-else (Some operator.Some) z s = absurd (s refl)
+two-else (Some operator.All) z s = absurd (s refl)
+two-else (Some operator.AtLeast) z s = absurd (s refl)
+two-else (Some operator.AtMost) z s = absurd (s refl)
+two-else (Some operator.SelfOf) z s = absurd (z refl)
+two-else (Some operator.One) z s = absurd (z refl)
+two-else (Some operator.Top) z s = absurd (z refl)
+two-else (Some operator.Bot) z s = absurd (z refl)
+two-else None z s = absurd (z refl)

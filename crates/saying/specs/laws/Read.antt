@@ -1,4 +1,5 @@
 -- Laws of reading expressions from fields that are those that are due. Assumes nothing.
+use Rattle.std.specs.Prelude.{Option, Some, None}
 use Rattle.std.specs.Prelude.{◌≡◌, true, false, List, [], ◌∷◌, ◌++◌, ℕ, zero, suc, ◌+◌, ◌≤◌, ◌<◌, length, drop}
 use Rattle.std.proofs.Common.{refl, sym, true≢false, arith}
 use Rattle.field.specs.declared.Due.{Due}
@@ -45,34 +46,34 @@ module _ (n : Names) (more : List Field → Read) (m : ℕ) (r : Reader more m) 
       rw (drop-two fs) (a.fit, omega (arith, p.1, q.1, a.nodes), omega (arith, p.2, q.2, a.less))
 
   -- what is read after a word that wants what it wants
-  word : (o : Operator) (f : Field) (ds : List Due) (fs : List Field) → length fs ≤ m → fits (wanted o ++ ds) fs ≡ true
+  word : (o : Option Operator) (f : Field) (ds : List Due) (fs : List Field) → length fs ≤ m → fits (wanted o ++ ds) fs ≡ true
       → (fits ds (by_word n more o f fs).rest ≡ true) × (nodes_of o + nodes_in (wanted o ++ ds) fs ≡ size (by_word n more o f fs).expr + nodes_in ds (by_word n more o f fs).rest)
       × (length (by_word n more o f fs).rest ≤ length fs)
   unfolding Reader size
-  word operator.And f ds fs l h =
+  word (Some operator.And) f ds fs l h =
       let a = r (due.Expr ∷ ds) fs l h in
       let b = r ds (more fs).rest (omega (arith, a.less)) a.fit in
       (b.fit, omega (arith, a.nodes, b.nodes), omega (arith, a.less, b.less))
-  word operator.Or f ds fs l h =
+  word (Some operator.Or) f ds fs l h =
       let a = r (due.Expr ∷ ds) fs l h in
       let b = r ds (more fs).rest (omega (arith, a.less)) a.fit in
       (b.fit, omega (arith, a.nodes, b.nodes), omega (arith, a.less, b.less))
-  word operator.Not f ds fs l h = let a = r ds fs l h in (a.fit, omega (arith, a.nodes), omega (arith, a.less))
-  word operator.Some f ds fs l h =
+  word (Some operator.Not) f ds fs l h = let a = r ds fs l h in (a.fit, omega (arith, a.nodes), omega (arith, a.less))
+  word (Some operator.Some) f ds fs l h =
       let p = plain-field due.RoleUse (due.Expr ∷ ds) fs refl h in
       let a = r ds (drop 1 fs) (omega (arith, p.2)) p.0 in
       (a.fit, omega (arith, p.1, a.nodes), omega (arith, p.2, a.less))
-  word operator.All f ds fs l h =
+  word (Some operator.All) f ds fs l h =
       let p = plain-field due.RoleUse (due.Expr ∷ ds) fs refl h in
       let a = r ds (drop 1 fs) (omega (arith, p.2)) p.0 in
       (a.fit, omega (arith, p.1, a.nodes), omega (arith, p.2, a.less))
-  word operator.AtLeast f ds fs l h = let a = counted due.AtLeast ds fs refl l h in (a.0, omega (arith, a.1), a.2)
-  word operator.AtMost f ds fs l h = let a = counted due.AtMost ds fs refl l h in (a.0, omega (arith, a.1), a.2)
-  word operator.SelfOf f ds fs l h = let p = plain-field due.RoleUse ds fs refl h in (p.0, omega (arith, p.1), omega (arith, p.2))
-  word operator.One f ds fs l h = let p = plain-field due.Item ds fs refl h in (p.0, omega (arith, p.1), omega (arith, p.2))
-  word operator.Top f ds fs l h = (h, omega arith, omega arith)
-  word operator.Bot f ds fs l h = (h, omega arith, omega arith)
-  word operator.None f ds fs l h = (h, omega arith, omega arith)
+  word (Some operator.AtLeast) f ds fs l h = let a = counted due.AtLeast ds fs refl l h in (a.0, omega (arith, a.1), a.2)
+  word (Some operator.AtMost) f ds fs l h = let a = counted due.AtMost ds fs refl l h in (a.0, omega (arith, a.1), a.2)
+  word (Some operator.SelfOf) f ds fs l h = let p = plain-field due.RoleUse ds fs refl h in (p.0, omega (arith, p.1), omega (arith, p.2))
+  word (Some operator.One) f ds fs l h = let p = plain-field due.Item ds fs refl h in (p.0, omega (arith, p.1), omega (arith, p.2))
+  word (Some operator.Top) f ds fs l h = (h, omega arith, omega arith)
+  word (Some operator.Bot) f ds fs l h = (h, omega arith, omega arith)
+  word None f ds fs l h = (h, omega arith, omega arith)
 
 -- an expression is read to its end, and is counted by its fields
 pub read_right : (n : Names) (left : ℕ) → Reader (read left n) left

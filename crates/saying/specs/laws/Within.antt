@@ -1,4 +1,5 @@
 -- The numbers and counts of an expression that is read from fields with nothing wrong. Assumes nothing.
+use Rattle.std.specs.Prelude.{Option, Some, None}
 use Rattle.std.specs.Prelude.{◌≡◌, true, false, not, List, [], ◌∷◌, ◌++◌, ℕ, zero, suc, ◌-◌, ◌≤◌, ◌<◌, eqb, drop, length}
 use Rattle.std.proofs.Common.{refl, sym, true≢false, length-drop, arith}
 use Rattle.std.proofs.lemmas.Bool.{not-false}
@@ -34,7 +35,7 @@ Sound n (one a) = DeclaredItem n a.0
 
 module _ (n : Names) (f : Field) where
   -- a concept in an expression
-  concept-inside : operator.None ≡ operator_of f → field_fault n due.Expr f ≡ 0 → place f n.concepts < length n.concepts
+  concept-inside : None ≡ operator_of f → field_fault n due.Expr f ≡ 0 → place f n.concepts < length n.concepts
   unfolding field_fault
   concept-inside e h = let q : name_fault n.concepts f ≡ 0 = rw (not-reserved f e) at h in name-declared n n.concepts f q
 
@@ -74,39 +75,39 @@ module _ (n : Names) (more : List Field → Read) (m : ℕ) (r : Reader more m) 
       let a = s ds (drop 1 (drop 1 fs)) (omega (arith, drop-short 1 (drop 1 fs), drop-short 1 fs)) q.1 in
       (p.0, rw (at_next 0 fs) at q.0, rw (drop-two fs) a.0, rw (drop-two fs) a.1)
 
-  sound-word : (o : Operator) (f : Field) (ds : List Due) (fs : List Field) → o ≡ operator_of f → field_fault n due.Expr f ≡ 0 → length fs ≤ m → Right n (wanted o ++ ds) fs
+  sound-word : (o : Option Operator) (f : Field) (ds : List Due) (fs : List Field) → o ≡ operator_of f → field_fault n due.Expr f ≡ 0 → length fs ≤ m → Right n (wanted o ++ ds) fs
       → Sound (counts_of n) (by_word n more o f fs).expr × Right n ds (by_word n more o f fs).rest
   unfolding SoundReader Reader Sound
-  sound-word operator.And f ds fs q z l h =
+  sound-word (Some operator.And) f ds fs q z l h =
       let a = s (due.Expr ∷ ds) fs l h in
       let b = s ds (more fs).rest (omega (arith, (r (due.Expr ∷ ds) fs l h.fit).less)) a.1 in
       ((a.0, b.0), b.1)
-  sound-word operator.Or f ds fs q z l h =
+  sound-word (Some operator.Or) f ds fs q z l h =
       let a = s (due.Expr ∷ ds) fs l h in
       let b = s ds (more fs).rest (omega (arith, (r (due.Expr ∷ ds) fs l h.fit).less)) a.1 in
       ((a.0, b.0), b.1)
-  sound-word operator.Not f ds fs q z l h = s ds fs l h
-  sound-word operator.Some f ds fs q z l h =
+  sound-word (Some operator.Not) f ds fs q z l h = s ds fs l h
+  sound-word (Some operator.Some) f ds fs q z l h =
       let p = right-first n due.RoleUse (due.Expr ∷ ds) fs refl h in
       let a = s ds (drop 1 fs) (omega (arith, drop-short 1 fs)) p.1 in
       ((omega arith, omega arith, role-use-declared n (at 0 fs) p.0, a.0), a.1)
-  sound-word operator.All f ds fs q z l h =
+  sound-word (Some operator.All) f ds fs q z l h =
       let p = right-first n due.RoleUse (due.Expr ∷ ds) fs refl h in
       let a = s ds (drop 1 fs) (omega (arith, drop-short 1 fs)) p.1 in
       ((omega arith, omega arith, role-use-declared n (at 0 fs) p.0, a.0), a.1)
-  sound-word operator.AtLeast f ds fs q z l h =
+  sound-word (Some operator.AtLeast) f ds fs q z l h =
       let a = after-count due.AtLeast ds fs refl l h in
       let b = least-bounds n (at 0 fs) a.0 in
       ((b.0, b.1, role-use-declared n (at 1 fs) a.1, a.2), a.3)
-  sound-word operator.AtMost f ds fs q z l h =
+  sound-word (Some operator.AtMost) f ds fs q z l h =
       let a = after-count due.AtMost ds fs refl l h in
       let b = most-bounds n (at 0 fs) a.0 in
       ((omega arith, omega (arith, b.1), role-use-declared n (at 1 fs) a.1, a.2), a.3)
-  sound-word operator.SelfOf f ds fs q z l h = let p = right-first n due.RoleUse ds fs refl h in (role-use-declared n (at 0 fs) p.0, p.1)
-  sound-word operator.One f ds fs q z l h = let p = right-first n due.Item ds fs refl h in (item-declared n (at 0 fs) p.0, p.1)
-  sound-word operator.Top f ds fs q z l h = (tt, h)
-  sound-word operator.Bot f ds fs q z l h = (tt, h)
-  sound-word operator.None f ds fs q z l h = (concept-inside n f q z, h)
+  sound-word (Some operator.SelfOf) f ds fs q z l h = let p = right-first n due.RoleUse ds fs refl h in (role-use-declared n (at 0 fs) p.0, p.1)
+  sound-word (Some operator.One) f ds fs q z l h = let p = right-first n due.Item ds fs refl h in (item-declared n (at 0 fs) p.0, p.1)
+  sound-word (Some operator.Top) f ds fs q z l h = (tt, h)
+  sound-word (Some operator.Bot) f ds fs q z l h = (tt, h)
+  sound-word None f ds fs q z l h = (concept-inside n f q z, h)
 
 -- an expression that is read from fields with nothing wrong is sound
 pub read-sound : (n : Names) (left : ℕ) → SoundReader n (read left n) left

@@ -5,4 +5,4 @@ use Rattle.field.specs.laws.Words.{word-reserved}
 use Rattle.field.proofs.words.reserved.Goals as goal
 
 pub returns : goal.returns
-returns c = c.is_word.ensures ∙ ap is_word c.operator.ensures ∙ word-reserved _
+returns c = c.is_some.ensures ∙ ap is_word c.operator.ensures ∙ word-reserved _

@@ -4,6 +4,7 @@ use Rattle.text.specs.laws.Split.{split-few}
 use Rattle.field.specs.Due.{dues}
 use Rattle.field.specs.own.Known.{fields_in, names_in}
 use Rattle.due.specs.own.Pending.{pending}
+use Rattle.line.specs.own.Number.{found}
 use Rattle.line.specs.laws.Walk.{along-start, along-step, along-stop, along-end}
 use Rattle.line.proofs.walk.walk.Goals as goal
 
@@ -33,7 +34,7 @@ loop-k-preserved c = let x = c.args in
       omega (arith, s.exprs, v.invariant.0),
       omega (arith, s.own, v.invariant.1),
       omega (arith, c.due_nodes-nodes.ensures.1, v.invariant.2),
-      along-step (names_in x.known.now) (dues x.l) _ (pending x.l v.p) _ _ _ _ _ v.fault _ v.nodes _ (sym c.none_left.ensures ∙ c.if-none_left.false) s.due c.next_due-d.ensures c.word_in-o.ensures
+      along-step (names_in x.known.now) (dues x.l) _ (pending x.l v.p) _ _ _ _ _ (found v.fault) _ v.nodes _ (sym c.none_left.ensures ∙ c.if-none_left.false) s.due c.next_due-d.ensures c.word_in-o.ensures
           (c.lower-fault.ensures ∙ rw c.field.ensures) c.due_nodes-nodes.ensures.0 z,
     )
 

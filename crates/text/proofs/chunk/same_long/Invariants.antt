@@ -1,6 +1,5 @@
 -- `text::chunk::same_long` meets its contract. Assumes nothing.
-use Prim.Native.Nat.{◌-◌, ◌≤◌}
-use lib.ListN.{length}
+use Rattle.std.proofs.Common.{◌-◌, ◌≤◌, length}
 use Rattle.text.specs.own.Chunk.{Agree}
 use Rattle.text.proofs.chunk.same_long.Given as goal
 

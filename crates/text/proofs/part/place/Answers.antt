@@ -1,6 +1,5 @@
 -- `text::part::place` meets its contract. Assumes nothing.
-use native.Mathlib.Omega.{arith}
-use mathlib.Core.Path.{sym, ◌∙◌}
+use Rattle.std.proofs.Common.{arith, sym, ◌∙◌}
 use Rattle.text.specs.laws.Split.{parts_all, end_ge, end-le, word-here, word_on, word_out}
 use Rattle.text.proofs.part.place.Goals as goal
 

@@ -1,7 +1,5 @@
 -- `text::part::place` meets its contract. Assumes nothing.
-use mathlib.Core.Path.{◌≡◌}
-use Prim.Native.Nat.{◌≤◌, ◌+◌, ◌-◌}
-use lib.ListN.{length}
+use Rattle.std.proofs.Common.{◌≡◌, ◌≤◌, ◌+◌, ◌-◌, length}
 use Rattle.text.specs.Bytes.{place}
 use Rattle.text.specs.Split.{split}
 use Rattle.text.specs.own.Split.{parts_from}

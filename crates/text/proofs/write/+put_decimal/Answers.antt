@@ -1,8 +1,6 @@
 -- `text::write::put_decimal` meets its contract. Assumes nothing.
-use lib.ListN.{length}
+use Rattle.std.proofs.Common.{length, arith, ap}
 use Rattle.text.specs.laws.Text.{decimal-one, decimal-more, decimal-short, wrote_then}
-use native.Mathlib.Omega.{arith}
-use mathlib.Core.Path.{ap}
 use Rattle.text.proofs.write.+put_decimal.Goals as goal
 
 pub put_decimal-p-requires : goal.put_decimal-p-requires
