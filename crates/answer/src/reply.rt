@@ -143,39 +143,44 @@ fn answer(
     cell(&known, words, at, table, q, room)
 }
 
+// The same with a store of W words, N numbers for the names and T words for the search.
+fn reply_with<const W: usize, const N: usize, const T: usize>(
+    sheet: &[u8],
+    question: &[u8],
+    width: usize,
+    room: &mut [u8],
+) -> usize
+    requires { (size width ≡ W) × (W ≤ 131072) × (number_count width ≤ N) × (N ≤ 65536) × (width ≤ widest) × (small ≤ width) × Lent width (replicate T 0) × (T ≤ 65536) }
+    ensures { Replies width sheet.now question.now room.old room.new result }
+{
+    let mut words = [0u64; W];
+    let mut names = [0u32; N];
+    let mut table = [0u64; T];
+    answer(
+        sheet, question, &mut words, width, &mut names, &mut table, room,
+    )
+}
+
 // Answers a question about a sheet, which is read with the smaller store: writes the text to the room, if it has place there; gives its length.
 pub fn reply(sheet: &[u8], question: &[u8], room: &mut [u8]) -> usize
     ensures { Replies small sheet.now question.now room.old room.new result }
 {
-    let mut words = [0u64; Store::WORDS];
-    let mut names = [0u32; Table::NUMBERS];
-    let mut table = [0u64; Paths::WORDS];
-    answer(
+    reply_with::<{ Store::WORDS }, { Table::NUMBERS }, { Paths::WORDS }>(
         sheet,
         question,
-        &mut words,
         Store::SMALL,
-        &mut names,
-        &mut table,
         room,
     )
 }
 
 // The same with the larger store.
-// Not one generic function with `reply`: it would take the width and three const sizes, with a clause on each, and so be longer than the two.
 pub fn reply_large(sheet: &[u8], question: &[u8], room: &mut [u8]) -> usize
     ensures { Replies large sheet.now question.now room.old room.new result }
 {
-    let mut words = [0u64; Store::LARGE_WORDS];
-    let mut names = [0u32; Table::LARGE_NUMBERS];
-    let mut table = [0u64; Paths::LARGE_WORDS];
-    answer(
+    reply_with::<{ Store::LARGE_WORDS }, { Table::LARGE_NUMBERS }, { Paths::LARGE_WORDS }>(
         sheet,
         question,
-        &mut words,
         Store::LARGE,
-        &mut names,
-        &mut table,
         room,
     )
 }

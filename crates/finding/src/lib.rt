@@ -1,7 +1,7 @@
 // Why an item is a finding of a rule `sub` with concept names on both sides.
 #![tactic(auto)]
 
-ghost use Rattle.std.specs.Prelude.{◌≡◌, ◌≤◌, length};
+ghost use Rattle.std.specs.Prelude.{◌≡◌, ◌≤◌, length, replicate};
 ghost use Rattle.store.specs.Layout.{width_of};
 ghost use Rattle.store.specs.own.Laid.{Laid};
 ghost use Rattle.sheet.specs.own.Pass.{Accepts, Judges};
@@ -141,23 +141,20 @@ fn answer(
     })
 }
 
-// The same with a lent store that may be the larger one. A list of no place is answered as one of one place: a function that calls itself keeps its words off its caller's stack.
-// Not one generic function with `explain`: that one would call itself for the smaller store too, and say in a clause what its two sizes must fit, in more lines than the two have.
-fn explain_large(
+// The same with N numbers for the names and T words for the search; it stays a call, so that the larger ones take no room where the smaller suffice.
+#[inline(never)]
+fn explain_with<const N: usize, const T: usize>(
     sheet: &[u8],
     words: &mut [u64],
     k: usize,
     a: Item,
     room: &mut [u32],
 ) -> Result<Explained, Refused>
+    requires { (number_count (width_of words.old) ≤ N) × (N ≤ 65536) × Lent (width_of words.old) (replicate T 0) × (T ≤ 65536) }
     ensures { ExplainsFinding sheet.now words.old words.new k a.0 room.old room.new result }
 {
-    if room.len() == 0 {
-        let mut own = [0u32; 1];
-        return explain_large(sheet, words, k, a, &mut own);
-    }
-    let mut names = [0u32; Table::LARGE_NUMBERS];
-    let mut table = [0u64; Paths::LARGE_WORDS];
+    let mut names = [0u32; N];
+    let mut table = [0u64; T];
     answer(sheet, words, &mut names, &mut table, k, a, room)
 }
 
@@ -173,9 +170,9 @@ pub fn explain(
     ensures { ExplainsFinding sheet.now words.old words.new k a.0 room.old room.new result }
 {
     if words.len() == Store::LARGE_WORDS {
-        return explain_large(sheet, words, k, a, room);
+        return explain_with::<{ Table::LARGE_NUMBERS }, { Paths::LARGE_WORDS }>(
+            sheet, words, k, a, room,
+        );
     }
-    let mut names = [0u32; Table::NUMBERS];
-    let mut table = [0u64; Paths::WORDS];
-    answer(sheet, words, &mut names, &mut table, k, a, room)
+    explain_with::<{ Table::NUMBERS }, { Paths::WORDS }>(sheet, words, k, a, room)
 }

@@ -133,9 +133,10 @@ pub fn judge(
 {
     let p = judge::seek::start(words, layout, known.counts, number, u, b.left);
     let at = findings(known, line, p.write, words, p.search, room, b.at);
+    let m = sheet::reads::counted(p.answer);
     Tally {
         at,
         left: b.left - p.write,
-        total: b.total + sheet::reads::counted(p.answer),
+        total: b.total + m,
     }
 }

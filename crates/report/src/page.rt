@@ -83,7 +83,8 @@ fn page_with(sheet: &[u8], words: &mut [u64], names: &mut [u32], room: &mut [u8]
     print_ended(sheet, e, names, words, at, room)
 }
 
-// The same with N numbers of its own. Each N is a function of its own, so that only a store that is the larger one asks for a frame with its numbers.
+// The same with N numbers of its own; it stays a call, so that the larger numbers take no room where the smaller suffice.
+#[inline(never)]
 fn page_of<const N: usize>(sheet: &[u8], words: &mut [u64], room: &mut [u8]) -> usize
     requires { (number_count (width_of words.old) ≤ N) × (N ≤ 65536) }
     ensures { PagesIn sheet.now words.old words.new room.old room.new result }

@@ -4,7 +4,7 @@
 pub mod gather;
 mod stating;
 
-ghost use Rattle.std.specs.Prelude.{◌≤◌, length};
+ghost use Rattle.std.specs.Prelude.{◌≤◌, length, replicate};
 ghost use Rattle.store.specs.Cell.{cell_of};
 ghost use Rattle.store.specs.Layout.{width_of};
 ghost use Rattle.sheet.specs.own.Pass.{Accepts};
@@ -125,17 +125,19 @@ fn answer(
     Ok(list(&known, cell, table, at.width, room))
 }
 
-// The same with a lent store that may be the larger one. A list of no place is answered as one of one place: a function that calls itself keeps its words off its caller's stack.
-// Not one generic function with `explain`: that one would call itself for the smaller store too, and say in a clause what its two sizes must fit, in more lines than the two have.
-fn explain_large(sheet: &[u8], words: &mut [u64], cell: Statement, room: &mut [u32]) -> Result<usize, Refused>
+// The same with N numbers for the names and T words for the search; it stays a call, so that the larger ones take no room where the smaller suffice.
+#[inline(never)]
+fn explain_with<const N: usize, const T: usize>(
+    sheet: &[u8],
+    words: &mut [u64],
+    cell: Statement,
+    room: &mut [u32],
+) -> Result<usize, Refused>
+    requires { (number_count (width_of words.old) ≤ N) × (N ≤ 65536) × Lent (width_of words.old) (replicate T 0) × (T ≤ 65536) }
     ensures { Explains sheet.now words.old words.new (cell_of cell) room.old room.new result }
 {
-    if room.len() == 0 {
-        let mut own = [0u32; 1];
-        return explain_large(sheet, words, cell, &mut own);
-    }
-    let mut names = [0u32; Table::LARGE_NUMBERS];
-    let mut table = [0u64; Paths::LARGE_WORDS];
+    let mut names = [0u32; N];
+    let mut table = [0u64; T];
     answer(sheet, words, &mut names, &mut table, cell, room)
 }
 
@@ -145,9 +147,9 @@ pub fn explain(sheet: &[u8], words: &mut [u64], cell: Statement, room: &mut [u32
     ensures { Explains sheet.now words.old words.new (cell_of cell) room.old room.new result }
 {
     if words.len() == Store::LARGE_WORDS {
-        return explain_large(sheet, words, cell, room);
+        return explain_with::<{ Table::LARGE_NUMBERS }, { Paths::LARGE_WORDS }>(
+            sheet, words, cell, room,
+        );
     }
-    let mut names = [0u32; Table::NUMBERS];
-    let mut table = [0u64; Paths::WORDS];
-    answer(sheet, words, &mut names, &mut table, cell, room)
+    explain_with::<{ Table::NUMBERS }, { Paths::WORDS }>(sheet, words, cell, room)
 }

@@ -1,13 +1,11 @@
 -- `why::explain` meets its contract. Assumes nothing.
-use Rattle.sheet.specs.laws.Width.{numbers-small}
-use Rattle.why.specs.laws.Gather.{lent-small}
+use Rattle.std.proofs.Common.{arith}
+use Rattle.sheet.specs.laws.Width.{numbers-large, numbers-small}
+use Rattle.why.specs.laws.Gather.{lent-large, lent-small}
 use Rattle.why.proofs.explain.Goals as goal
 
-pub returns-then-words-eq-LARGE_WORDS : goal.returns-then-words-eq-LARGE_WORDS
-returns-then-words-eq-LARGE_WORDS c = c.explain_large.ensures
+pub explain_with-requires : goal.explain_with-requires
+explain_with-requires c = (numbers-large _, omega arith, lent-large _, omega arith)
 
-pub answer-requires : goal.answer-requires
-answer-requires c = (numbers-small _ c.if-words-eq-LARGE_WORDS.false, lent-small _ c.if-words-eq-LARGE_WORDS.false)
-
-pub returns : goal.returns
-returns c = c.answer.ensures
+pub explain_with-requires-2 : goal.explain_with-requires-2
+explain_with-requires-2 c = (numbers-small _ c.if-words-eq-LARGE_WORDS.false, omega arith, lent-small _ c.if-words-eq-LARGE_WORDS.false, omega arith)

@@ -4,8 +4,5 @@ use Rattle.store.specs.Layout.{large}
 use Rattle.why.specs.laws.Gather.{lent-blank}
 use Rattle.answer.proofs.reply.reply_large.Goals as goal
 
-pub answer-requires : goal.answer-requires
-answer-requires c = (refl, omega arith, omega arith, omega arith, lent-blank large (omega arith))
-
-pub returns : goal.returns
-returns c = c.answer.ensures
+pub reply_with-requires : goal.reply_with-requires
+reply_with-requires c = (refl, omega arith, omega arith, omega arith, omega arith, omega arith, lent-blank large (omega arith), omega arith)
