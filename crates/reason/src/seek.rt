@@ -18,11 +18,9 @@ pub fn narrow(
 {
     let mut end = codes.len();
     crate::reach::build(t, width, codes, kind, nodes, marks);
-    let mut done = crate::reach::reached(t, width, goal);
-    while !done {
+    'narrowing: while !crate::reach::reached(t, width, goal) {
         end = crate::reach::add_until(t, width, codes, kind, nodes, goal);
         crate::marks::mark(marks, end);
         crate::reach::build(t, width, codes, kind, nodes, marks);
-        done = crate::reach::reached(t, width, goal);
     }
 }
