@@ -1,6 +1,6 @@
 // The search for a reason of a fact: the statement from which steps lead to it, the steps above, and the steps of "same".
-ghost use Rattle.reason.specs.own.Aim.{Above, Aimed, Beside, Fresh, Joinable, Joined, Reaches, Sighted, Starts};
 ghost use Rattle.std.specs.Prelude.{◌≡◌};
+ghost use Rattle.reason.specs.own.Aim.{Above, Aimed, Beside, Fresh, Joinable, Joined, Reaches, Sighted, Starts};
 ghost use Rattle.reason.specs.own.Fact.{above_width};
 ghost use Rattle.reason.specs.own.Promise.{Lent};
 
@@ -38,15 +38,11 @@ fn mark_above(
     crate::reach::fill(same, width, codes, Kind::Same, counts.items);
     crate::reach::fill(&mut above, Lines::ABOVE_WIDTH, codes, kind, Lines::ABOVE);
     let items = Table { words: same, width };
-    let n = find(
-        codes,
-        g,
-        items,
-        Table {
-            words: &above,
-            width: Lines::ABOVE_WIDTH,
-        },
-    );
+    let steps = Table {
+        words: &above,
+        width: Lines::ABOVE_WIDTH,
+    };
+    let n = find(codes, g, items, steps);
     let goal = crate::facts::above_goal(items, crate::facts::fact_at(codes, n), g);
     crate::seek::narrow(
         codes,
