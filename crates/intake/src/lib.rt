@@ -13,6 +13,7 @@ pub fn read_full<R: Read>(input: &mut R, room: &mut [u8]) -> usize
     ensures bytes { Consumes (R.remaining input.old) (R.remaining input.new) (take result room.new) }
 {
     let mut done = 0;
+    // Not a `for`: a read gives as many bytes as it likes.
     while done < room.len() {
         match input.read(&mut room[done..]) {
             Ok(0) | Err(_) => break,

@@ -1,17 +1,20 @@
 // The search for a reason of a fact: the statement from which steps lead to it, the steps above, and the steps of "same".
+ghost use Rattle.std.specs.Prelude.{◌≡◌};
 ghost use Rattle.reason.specs.own.Aim.{Above, Aimed, Beside, Fresh, Joinable, Joined, Reaches, Sighted, Starts};
+ghost use Rattle.reason.specs.own.Fact.{above_width};
 ghost use Rattle.reason.specs.own.Promise.{Lent};
 
+use crate::table::Table;
 use crate::{Fact, Kind, Lines};
 use store::Counts;
 
 // The place of the first statement from which steps lead to the fact g.
-fn find(codes: &[u32], g: Fact, same: &[u64], width: usize, above: &[u64]) -> usize
-    requires { Sighted width g codes.now same.now above.now }
+fn find(codes: &[u32], g: Fact, same: Table, above: Table) -> usize
+    requires { (above.width ≡ above_width) × Sighted same.width g codes.now same.words.now above.words.now }
     ensures { Starts g codes.now result }
 {
     for i in 0..codes.len() {
-        if crate::facts::meets(same, width, above, crate::facts::fact_at(codes, i), g) {
+        if crate::facts::meets(same, above, crate::facts::fact_at(codes, i), g) {
             return i;
         }
     }
@@ -34,8 +37,13 @@ fn mark_above(
     let mut above = [0u64; Lines::ABOVE_WORDS];
     crate::reach::fill(same, width, codes, Kind::Same, counts.items);
     crate::reach::fill(&mut above, Lines::ABOVE_WIDTH, codes, kind, Lines::ABOVE);
-    let n = find(codes, g, same, width, &above);
-    let goal = crate::facts::above_goal(same, width, crate::facts::fact_at(codes, n), g);
+    let items = Table { words: same, width };
+    let steps = Table {
+        words: &above,
+        width: Lines::ABOVE_WIDTH,
+    };
+    let n = find(codes, g, items, steps);
+    let goal = crate::facts::above_goal(items, crate::facts::fact_at(codes, n), g);
     crate::seek::narrow(
         codes,
         kind,
@@ -72,7 +80,11 @@ fn mark_same(
         Lines::ABOVE,
         up,
     );
-    let goal = crate::facts::same_goal(&above, crate::facts::fact_at(codes, n), g);
+    let steps = Table {
+        words: &above,
+        width: Lines::ABOVE_WIDTH,
+    };
+    let goal = crate::facts::same_goal(steps, crate::facts::fact_at(codes, n), g);
     crate::seek::narrow(codes, Kind::Same, counts.items, goal, same, width, marks);
 }
 

@@ -5,9 +5,9 @@ ghost use Rattle.reason.specs.own.Aim as aim;
 ghost use Rattle.reason.specs.own.Aim.{Near, Raised, Rising, Small};
 ghost use Rattle.reason.specs.own.Fact as spec;
 ghost use Rattle.reason.specs.own.Fact.{above_width, fact_of, kind_above};
-ghost use Rattle.reason.specs.own.Promise.{Lent};
 
-use crate::{Fact, Goal, Kind, Lines, Route, Way};
+use crate::table::Table;
+use crate::{Fact, Goal, Kind, Route, Way};
 use store::{Statement, Store};
 
 // The fact that a statement states, if it states one.
@@ -89,12 +89,12 @@ fn turned(f: Option<Fact>, g: Fact) -> Option<Route>
 }
 
 // The way above of a route, if steps of "same" lead between its ends, by their table.
-fn above_way(t: &[u64], width: usize, r: Option<Route>) -> Option<Way>
-    requires { Lent width t.now × IfSome r (Near width) }
-    ensures { result ≡ aim.above_by width t.now r }
+fn above_way(t: Table, r: Option<Route>) -> Option<Way>
+    requires { IfSome r (Near t.width) }
+    ensures { result ≡ aim.above_by t.entry.width t.entry.words.now r }
 {
     let r = r?;
-    let open = crate::reach::along(t, width, r.ends);
+    let open = crate::table::along(t, r.ends);
     open.then_some(Way {
         a: r.from,
         b: r.to,
@@ -104,29 +104,29 @@ fn above_way(t: &[u64], width: usize, r: Option<Route>) -> Option<Way>
 }
 
 // The way of "same" of a route, if steps above lead along it, by their table.
-fn same_way(t: &[u64], r: Option<Route>) -> Option<Way>
-    requires { Lent above_width t.now × IfSome r Rising }
-    ensures { result ≡ aim.same_by t.now r }
+fn same_way(t: Table, r: Option<Route>) -> Option<Way>
+    requires { (t.width ≡ above_width) × IfSome r Rising }
+    ensures { result ≡ aim.same_by t.entry.words.now r }
 {
     let r = r?;
-    let open = crate::reach::leads(t, Lines::ABOVE_WIDTH, r.from, r.to);
+    let open = crate::table::leads(t, r.from, r.to);
     open.then_some(r.ends)
 }
 
 // The steps above that have to lead from one fact to another, by the table of the steps of "same".
-pub fn above_goal(t: &[u64], width: usize, f: Option<Fact>, g: Fact) -> Goal
-    requires { Lent width t.now × IfSome f (Small width) × Small width g }
-    ensures { result ≡ aim.above_goal width t.now f g }
+pub fn above_goal(t: Table, f: Option<Fact>, g: Fact) -> Goal
+    requires { IfSome f (Small t.width) × Small t.width g }
+    ensures { result ≡ aim.above_goal t.entry.width t.entry.words.now f g }
 {
-    let one = above_way(t, width, straight(f, g));
-    let other = above_way(t, width, turned(f, g));
+    let one = above_way(t, straight(f, g));
+    let other = above_way(t, turned(f, g));
     Goal { one, other }
 }
 
 // The steps of "same" that have to lead from one fact to another, by the table of the steps above.
-pub fn same_goal(t: &[u64], f: Option<Fact>, g: Fact) -> Goal
-    requires { Lent above_width t.now × IfSome f Raised × Raised g }
-    ensures { result ≡ aim.same_goal t.now f g }
+pub fn same_goal(t: Table, f: Option<Fact>, g: Fact) -> Goal
+    requires { (t.width ≡ above_width) × IfSome f Raised × Raised g }
+    ensures { result ≡ aim.same_goal t.entry.words.now f g }
 {
     let one = same_way(t, straight(f, g));
     let other = same_way(t, turned(f, g));
@@ -134,23 +134,20 @@ pub fn same_goal(t: &[u64], f: Option<Fact>, g: Fact) -> Goal
 }
 
 // Whether steps lead along a route, by the tables of "same" and of the steps above.
-fn opens(same: &[u64], width: usize, above: &[u64], r: Option<Route>) -> bool
-    requires { Lent width same.now × Lent above_width above.now × IfSome r (Near width) }
-    ensures { result ≡ aim.opensb width same.now above.now r }
+fn opens(same: Table, above: Table, r: Option<Route>) -> bool
+    requires { (above.width ≡ above_width) × IfSome r (Near same.width) }
+    ensures { result ≡ aim.opensb same.entry.width same.entry.words.now above.entry.words.now r }
 {
     match r {
-        Some(r) => {
-            crate::reach::along(same, width, r.ends)
-                && crate::reach::leads(above, Lines::ABOVE_WIDTH, r.from, r.to)
-        }
+        Some(r) => { crate::table::along(same, r.ends) && crate::table::leads(above, r.from, r.to) }
         None => false,
     }
 }
 
 // Whether steps lead from one fact to another, by the tables of "same" and of the steps above.
-pub fn meets(same: &[u64], width: usize, above: &[u64], f: Option<Fact>, g: Fact) -> bool
-    requires { Lent width same.now × Lent above_width above.now × IfSome f (Small width) × Small width g }
-    ensures { result ≡ aim.meetsb width same.now above.now f g }
+pub fn meets(same: Table, above: Table, f: Option<Fact>, g: Fact) -> bool
+    requires { (above.width ≡ above_width) × IfSome f (Small same.width) × Small same.width g }
+    ensures { result ≡ aim.meetsb same.entry.width same.entry.words.now above.entry.words.now f g }
 {
-    opens(same, width, above, straight(f, g)) || opens(same, width, above, turned(f, g))
+    opens(same, above, straight(f, g)) || opens(same, above, turned(f, g))
 }

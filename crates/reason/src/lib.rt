@@ -7,6 +7,7 @@ mod facts;
 pub mod marks;
 mod reach;
 mod seek;
+mod table;
 
 ghost use Rattle.store.specs.Cell.{cell_of};
 ghost use Rattle.reason.specs.own.Aim.{plain_goal};

@@ -1,6 +1,7 @@
 // The search for statements by which a goal is reached: they are marked one after the other, the last first.
 ghost use Rattle.reason.specs.own.Seek.{Narrowest, Wanted};
 
+use crate::table::Table;
 use crate::{Goal, Kind, Lines};
 
 // Marks statements of a kind by which the goal is reached, and by no part of them with one taken out. The place that is marked, `end`, falls from turn to turn.
@@ -18,11 +19,9 @@ pub fn narrow(
 {
     let mut end = codes.len();
     crate::reach::build(t, width, codes, kind, nodes, marks);
-    let mut done = crate::reach::reached(t, width, goal);
-    while !done {
+    'narrowing: while !crate::table::reached(Table { words: t, width }, goal) {
         end = crate::reach::add_until(t, width, codes, kind, nodes, goal);
         crate::marks::mark(marks, end);
         crate::reach::build(t, width, codes, kind, nodes, marks);
-        done = crate::reach::reached(t, width, goal);
     }
 }

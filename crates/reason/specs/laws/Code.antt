@@ -1,6 +1,6 @@
 -- Laws of statements as numbers. Assumes nothing.
-use Rattle.std.specs.Prelude.{◌≡◌, refl, Bool, true, false, cond, eqb, ℕ, ◌+◌, ◌*◌, ◌/◌, ◌%◌, ◌≤◌, ◌<◌}
-use Rattle.std.proofs.Common.{sym, ap, subst, arith, ne_eqb}
+use Rattle.std.specs.Prelude.{◌≡◌, refl, ℕ, ◌+◌, ◌*◌, ◌/◌, ◌%◌, ◌≤◌, ◌<◌}
+use Rattle.std.proofs.Common.{ap, arith, ne_eqb}
 use Rattle.store.specs.declared.Counts.{Counts}
 use Rattle.store.specs.declared.Statement.{Statement}
 use Rattle.store.specs.Cell.{Cell, Within, cell_of}
@@ -30,36 +30,6 @@ cell-kind k n e = ap (λ (m : ℕ). cell_by m (k / 8 % 512) (k / 4096 % 512) (k 
 pub cell-link : (k : ℕ) → ¬ (k % 8 ≡ 0) → ¬ (k % 8 ≡ 1) → ¬ (k % 8 ≡ 2) → ¬ (k % 8 ≡ 3) → ¬ (k % 8 ≡ 4) → cell_at k ≡ Link (k / 2097152) (k / 8 % 512) (k / 4096 % 512)
 unfolding cell_at
 cell-link k a b c d e = rw (ne_eqb (k % 8) 0 a, ne_eqb (k % 8) 1 b, ne_eqb (k % 8) 2 c, ne_eqb (k % 8) 3 d, ne_eqb (k % 8) 4 e) refl
-
--- the roles of a number are below 512
-abbrev pub RolesLow : Cell → Type 0
-RolesLow (Same a b) = Unit {0}
-RolesLow (Under a b) = Unit {0}
-RolesLow (RoleUnder r u s) = (r < 512) × (s < 512)
-RolesLow (In a b) = Unit {0}
-RolesLow (Link r a b) = Unit {0}
-
-pub roles-low : (k : ℕ) → RolesLow (cell_at k)
-unfolding cell_at
-roles-low k = by (eqb (k % 8) 0) (eqb (k % 8) 1) (eqb (k % 8) 2) (eqb (k % 8) 3) (eqb (k % 8) 4)
-  where
-    a : ℕ
-    a = k / 8 % 512
-
-    b : ℕ
-    b = k / 4096 % 512
-
-    by : (e0 e1 e2 e3 e4 : Bool) → RolesLow (cond e0 (Same a b) (cond e1 (Under a b) (cond e2 (RoleUnder a false b) (cond e3 (RoleUnder a true b) (cond e4 (In a b) (Link (k / 2097152) a b))))))
-    by true e1 e2 e3 e4 = tt
-    by false true e2 e3 e4 = tt
-    by false false true e3 e4 = (omega arith, omega arith)
-    by false false false true e4 = (omega arith, omega arith)
-    by false false false false true = tt
-    by false false false false false = tt
-
--- so are those of a role step that it states
-pub role-stated : (k : ℕ) {r t : ℕ} (u : Bool) → RoleUnder r u t ≡ cell_at k → (r < 512) × (t < 512)
-role-stated k u e = subst RolesLow (sym e) (roles-low k)
 
 within-cell : {W : ℕ} {n : Counts} (c : Cell) → W ≤ widest → Within n c → Fits W n → SmallCell c
 within-cell (Same a b) h w f = (omega (arith, w.0, f.items, h), omega (arith, w.1, f.items, h))

@@ -4,13 +4,13 @@ use Rattle.reason.specs.laws.Aim.{met, small-aim, small_at, unmet-more, unmet-ne
 use Rattle.reason.proofs.choose.find.Goals as goal
 
 pub meets-requires : goal.meets-requires
-meets-requires c = (c.requires.tables.of-same.lent, c.requires.tables.of-above.lent, rw c.fact_at.ensures (small_at c.requires.aimed c.loop-i.i (omega arith)), small-aim c.requires.aimed)
+meets-requires c = (c.requires.0, rw c.fact_at.ensures (small_at c.requires.1.aimed c.loop-i.i (omega arith)), small-aim c.requires.1.aimed)
 
 pub returns-then-meets : goal.returns-then-meets
-returns-then-meets c = met c.requires c.loop-i.i (omega arith) c.fact_at.ensures c.meets.ensures c.if-meets.true
+returns-then-meets c = met c.requires.1 c.loop-i.i (omega arith) c.fact_at.ensures c.meets.ensures c.if-meets.true
 
 pub loop-i-preserved : goal.loop-i-preserved
-loop-i-preserved c = unmet-more c.requires c.loop-i.i (omega arith) c.fact_at.ensures c.meets.ensures c.loop-i.invariant c.if-meets.false
+loop-i-preserved c = unmet-more c.requires.1 c.loop-i.i (omega arith) c.fact_at.ensures c.meets.ensures c.loop-i.invariant c.if-meets.false
 
 pub returns : goal.returns
-returns c = absurd (unmet-never c.requires {i = c.loop-i.i} (omega arith) c.loop-i.invariant)
+returns c = absurd (unmet-never c.requires.1 {i = c.loop-i.i} (omega arith) c.loop-i.invariant)

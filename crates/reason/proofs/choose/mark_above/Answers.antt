@@ -11,7 +11,7 @@ pub fill-requires-2 : goal.fill-requires-2
 fill-requires-2 c = (record { wide = omega arith; long = omega arith }, omega arith, rw c.kind_above-kind.ensures (steps-above c.requires.0))
 
 pub above_goal-goal-requires : goal.above_goal-goal-requires
-above_goal-goal-requires c = (c.fill.ensures.lent, rw c.fact_at.ensures (small_at c.requires.0 c.find-n.result c.find-n.ensures.low), small-aim c.requires.0)
+above_goal-goal-requires c = (rw c.fact_at.ensures (small_at c.requires.0 c.find-n.result c.find-n.ensures.low), small-aim c.requires.0)
 
 pub narrow-requires : goal.narrow-requires
 narrow-requires c = rw (c.kind_above-kind.ensures, c.above_goal-goal.ensures, c.fact_at.ensures) (above-wanted c.requires.0 c.find-n.ensures.low c.fill-2.ensures.lent c.fill.ensures c.find-n.ensures.meets c.requires.2)

@@ -1,5 +1,5 @@
 -- `reason::code::statement_at` meets its contract: each kind of number has its statement. Assumes nothing.
-use Rattle.std.proofs.Common.{sym}
+use Rattle.std.proofs.Common.{sym, arith}
 use Rattle.reason.specs.laws.Code.{cell-kind, cell-link}
 use Rattle.reason.proofs.code.statement_at.Goals as goal
 
@@ -19,4 +19,4 @@ pub returns-in-4 : goal.returns-in-4
 returns-in-4 c = sym (cell-kind _ 4 c.in-4.is)
 
 pub returns-in_default : goal.returns-in_default
-returns-in_default c = let r = c.in_default.in_default-own.rest in sym (cell-link _ r.0.0.0.0.1 r.0.0.0.1 r.0.0.1 r.0.1 r.1)
+returns-in_default c = sym (cell-link _ (omega arith) (omega arith) (omega arith) (omega arith) (omega arith))
