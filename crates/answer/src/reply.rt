@@ -128,8 +128,8 @@ fn answer(
 {
     let at = store::size::layout(width);
     let e = sheet::sheets::fill_blank(sheet, words, at, names);
-    if e.why != 0 {
-        return refuse(room, e.line, e.why);
+    if let Err(refused) = e.read {
+        return refuse(room, refused.line, refused.why);
     }
     let known = Known {
         sheet,

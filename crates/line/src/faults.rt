@@ -179,13 +179,3 @@ pub fn lower(a: Result<(), Fault>, b: Result<(), Fault>) -> Result<(), Fault>
         (_, Ok(())) => a,
     }
 }
-
-// The number of what was found; 0 is nothing.
-pub fn number_found(finding: Result<(), Fault>) -> usize
-    ensures { result ≡ found finding }
-{
-    match finding {
-        Ok(()) => 0,
-        Err(fault) => fault.number(),
-    }
-}

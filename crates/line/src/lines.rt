@@ -86,19 +86,19 @@ fn form_fault(known: &Known, m: Marks, fields: &Fields) -> Result<(), Fault>
     fields_fault(known, m, fields, f)
 }
 
-// What is wrong with a line after the first, whose bytes are good or not, and which was looked at if it is not too long: the lowest number that applies, or 0.
+// What is wrong with a line after the first, whose bytes are good or not, and which was looked at if it is not too long: the lowest fault that applies, if there is one.
 #[tactic(auto, unfolding(crate::specs::Fault::line_fault))]
-pub fn line_fault(known: &Known, m: Marks, line: &[u8], good: bool, ends: &[u16]) -> usize
+pub fn line_fault(known: &Known, m: Marks, line: &[u8], good: bool, ends: &[u16]) -> Result<(), Fault>
     requires { (good ≡ every line_byte line.now) × (length line.now ≤ line_limit → Looked line.now ends.now) }
-    ensures { result ≡ line_fault (names_in known.now) m line.now }
+    ensures { found result ≡ line_fault (names_in known.now) m line.now }
 {
     if line.is_empty() {
-        return 0;
+        return Ok(());
     }
     if Sheet::LINE < line.len() || !good {
-        return Fault::Bytes.number();
+        return Err(Fault::Bytes);
     }
-    crate::faults::number_found(form_fault(known, m, &Fields { line, ends }))
+    form_fault(known, m, &Fields { line, ends })
 }
 
 // Whether line 1 is the header of edition 2.
@@ -129,14 +129,14 @@ pub fn item_room(line: &[u8]) -> usize
 
 // What is wrong with line 1, with a store with item rows of so many words.
 #[tactic(auto, unfolding(crate::specs::Fault::header_fault))]
-pub fn header_fault(width: usize, line: &[u8]) -> usize
-    ensures { result ≡ header_fault width line.now }
+pub fn header_fault(width: usize, line: &[u8]) -> Result<(), Fault>
+    ensures { found result ≡ header_fault width line.now }
 {
     if Sheet::LINE < line.len() || !text::name::line_bytes(line) {
-        return Fault::Bytes.number();
+        return Err(Fault::Bytes);
     }
     if !headed(width, line) {
-        return Fault::Header.number();
+        return Err(Fault::Header);
     }
-    0
+    Ok(())
 }

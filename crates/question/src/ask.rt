@@ -56,7 +56,7 @@ pub fn cell(known: &Known, q: &[u8]) -> Option<Statement>
     }
     let n = s.count.min(Sheet::FIELDS);
     let fault = line::lines::line_fault(known, m, q, s.good, &ends[..n]);
-    if fault != 0 {
+    if fault.is_err() {
         return None;
     }
     let fields = Fields {

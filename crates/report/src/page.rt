@@ -48,16 +48,16 @@ fn print_ended(
     requires { Filled at.width sheet.now names.now words.now e × Laid at words.now }
     ensures { Pages at.width sheet.now room.old room.new result }
 {
-    if e.why == 0 {
-        let known = Known {
-            sheet,
-            numbers: names,
-            counts: e.kept.counts,
-        };
-        let b = judge_all(&known, e.start, words, at, room);
-        return printed::total(room, b.at, b.total);
+    if let Err(refused) = e.read {
+        return printed::refused(room, 0, refused.line, refused.why);
     }
-    printed::refused(room, 0, e.line, e.why)
+    let known = Known {
+        sheet,
+        numbers: names,
+        counts: e.kept.counts,
+    };
+    let b = judge_all(&known, e.start, words, at, room);
+    printed::total(room, b.at, b.total)
 }
 
 // Bytes that suffice for the text of any sheet with the lent store.

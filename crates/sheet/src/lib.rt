@@ -14,7 +14,7 @@ ghost use Rattle.field.specs.own.Table.{number_count};
 ghost use Rattle.sheet.specs.Promise.{Reads};
 
 use field::Table;
-use line::Marks;
+use line::{Fault, Marks};
 use rule::Rule;
 use store::{Counts, Store};
 
@@ -25,10 +25,10 @@ pub struct Kept {
     pub marks: Marks,
 }
 
-// What reading a line gives: its number of refusal or 0, and what is kept then.
+// What reading a line gives: its fault, if it has one, and what is kept then.
 #[derive(Clone, Copy)]
 struct LineRead {
-    why: usize,
+    taken: Result<(), Fault>,
     kept: Kept,
 }
 
@@ -39,11 +39,10 @@ pub struct Start {
     pub line: usize,
 }
 
-// How the lines of a sheet end: the number of the faulty line and its number of refusal, or 0 and 0; what is kept; and where the rules begin.
+// How the lines of a sheet end: why the sheet is refused, if it is; what is kept; and where the rules begin.
 #[derive(Clone, Copy)]
 pub struct Ended {
-    pub line: usize,
-    pub why: usize,
+    pub read: Result<(), Refused>,
     pub kept: Kept,
     pub start: Start,
 }

@@ -54,25 +54,25 @@ pub fn whole(sheet: &[u8], words: &mut [u64], names: &mut [u32]) -> Whole
     let e = crate::sheets::fill(sheet, words, at, names);
     let counts = e.kept.counts;
     let start = e.start;
-    if e.why == 0 {
-        let known = Known {
-            sheet,
-            numbers: names,
-            counts,
-        };
-        let total = count_all(&known, words, at, start);
+    if let Err(refused) = e.read {
         return Whole {
-            answer: Ok(Accepted {
-                counts,
-                rules: e.kept.marks.rules,
-                findings: total,
-            }),
+            answer: Err(refused),
             counts,
             start,
         };
     }
+    let known = Known {
+        sheet,
+        numbers: names,
+        counts,
+    };
+    let total = count_all(&known, words, at, start);
     Whole {
-        answer: Err(Refused { line: e.line, why: e.why }),
+        answer: Ok(Accepted {
+            counts,
+            rules: e.kept.marks.rules,
+            findings: total,
+        }),
         counts,
         start,
     }

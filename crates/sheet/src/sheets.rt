@@ -1,14 +1,16 @@
-ghost use Rattle.std.specs.Prelude.{◌≡◌, cond, ◌+◌, ◌≤◌, eqb, length, replicate};
+ghost use Rattle.std.specs.Prelude.{◌≡◌, Err, cond, ◌+◌, ◌≤◌, eqb, length, replicate};
 ghost use Rattle.text.specs.own.Split.{parts_from};
 ghost use Rattle.line.specs.Fault.{sheet_limit};
+ghost use Rattle.line.specs.own.Number.{number_of};
 ghost use Rattle.store.specs.Layout.{item_limit, size, small};
 ghost use Rattle.store.specs.own.Laid.{Laid};
 ghost use Rattle.field.specs.own.Table.{number_count, room_of};
+ghost use Rattle.sheet.specs.Reading.{refusal_as};
 ghost use Rattle.sheet.specs.Said.{nothing, outcome, outcome_from};
 ghost use Rattle.sheet.specs.own.Stands.{Ends, Fills, Opens, blank_kept, too_long};
 
-use crate::{Ended, Kept, Start};
-use line::{Marks, Sheet};
+use crate::{Ended, Kept, Refused, Start};
+use line::{Fault, Marks, Sheet};
 use store::Layout;
 
 // Nothing is kept yet.
@@ -22,6 +24,16 @@ fn blank() -> Kept
             rules: 0,
         },
     }
+}
+
+// That a line is faulty, as why the sheet is refused.
+fn refused(line: usize, fault: Fault) -> Result<(), Refused>
+    ensures { result ≡ Err (refusal_as line (number_of fault)) }
+{
+    Err(Refused {
+        line,
+        why: fault.number(),
+    })
 }
 
 // Where the rules begin, as far as is known: at the line that comes next, if there was no rule, and else where it was.
@@ -67,10 +79,9 @@ fn read_lines(
             &ends[..n],
         );
         kept = r.kept;
-        if r.why != 0 {
+        if let Err(fault) = r.taken {
             return Ended {
-                line,
-                why: r.why,
+                read: refused(line, fault),
                 kept,
                 start,
             };
@@ -80,8 +91,7 @@ fn read_lines(
         start = start_from(kept.marks.rules, at, line, start);
     }
     Ended {
-        line: 0,
-        why: 0,
+        read: Ok(()),
         kept,
         start,
     }
@@ -94,17 +104,15 @@ fn read_all(sheet: &[u8], words: &mut [u64], at: Layout, names: &mut [u32]) -> E
 {
     let end = text::part::end_of(sheet, 0, 10);
     let first = text::part::part(sheet, 0, end);
-    let why = line::lines::header_fault(at.width, first);
-    if why == 0 {
-        field::tables::allow(names, line::lines::item_room(first));
-        return read_lines(sheet, words, at, names, end + 1);
+    if let Err(fault) = line::lines::header_fault(at.width, first) {
+        return Ended {
+            read: refused(1, fault),
+            kept: blank(),
+            start: Start { at: 0, line: 0 },
+        };
     }
-    Ended {
-        line: 1,
-        why,
-        kept: blank(),
-        start: Start { at: 0, line: 0 },
-    }
+    field::tables::allow(names, line::lines::item_room(first));
+    read_lines(sheet, words, at, names, end + 1)
 }
 
 // How a sheet ends that is too long.
@@ -112,8 +120,7 @@ fn too_long() -> Ended
     ensures { result ≡ too_long }
 {
     Ended {
-        line: 0,
-        why: 9,
+        read: Err(Refused { line: 0, why: 9 }),
         kept: blank(),
         start: Start { at: 0, line: 0 },
     }
@@ -125,7 +132,7 @@ fn fill_short(sheet: &[u8], words: &mut [u64], at: Layout, names: &mut [u32]) ->
     ensures { Fills at.width sheet.now names.new words.new result }
 {
     let r = read_all(sheet, words, at, names);
-    if r.why == 0 {
+    if r.read.is_ok() {
         crate::keeping::begin(words, at, r.kept.counts, r.kept.marks);
     }
     r

@@ -5,6 +5,7 @@ ghost use Rattle.store.specs.Layout.{Fits, large, size};
 ghost use Rattle.store.specs.own.Laid.{Laid};
 ghost use Rattle.field.specs.Due.{none};
 ghost use Rattle.line.specs.Fault.{begun, rule_limit};
+ghost use Rattle.line.specs.own.Number.{found};
 ghost use Rattle.sheet.specs.own.Stands.{Adding, Begins, Came, Comes, Declaration, Standing, TakenOther, TakesOther, one_rule, one_stated};
 ghost use Rattle.field.specs.own.Table.{Noted, concepts_from, entry_of, hint_at, number_count, place_count, table_of};
 ghost use Rattle.field.specs.own.Known.{fields_in};
@@ -128,7 +129,7 @@ pub fn read(
     ends: &[u16],
 ) -> LineRead
     requires { Comes at.width sheet.now (table_of names.old k.counts) k.marks words.old start line.now good ends.now × Laid at words.old }
-    ensures { Came at.width sheet.now (table_of names.old k.counts) k.marks words.old line.now result.why (table_of names.new result.kept.counts) result.kept.marks words.new }
+    ensures { Came at.width sheet.now (table_of names.old k.counts) k.marks words.old line.now (found result.taken) (table_of names.new result.kept.counts) result.kept.marks words.new }
 {
     let known = Known {
         sheet,
@@ -137,12 +138,15 @@ pub fn read(
     };
     if let Some(s) = quick::statement_in(&known, k.marks, line, good, ends) {
         let kept = add(words, at, k, s);
-        return LineRead { why: 0, kept };
+        return LineRead {
+            taken: Ok(()),
+            kept,
+        };
     }
-    let why = line::lines::line_fault(&known, k.marks, line, good, ends);
-    if why == 0 {
-        let kept = take(words, at, names, k, start, &Fields { line, ends });
-        return LineRead { why, kept };
+    let taken = line::lines::line_fault(&known, k.marks, line, good, ends);
+    if taken.is_err() {
+        return LineRead { taken, kept: k };
     }
-    LineRead { why, kept: k }
+    let kept = take(words, at, names, k, start, &Fields { line, ends });
+    LineRead { taken, kept }
 }

@@ -1,5 +1,5 @@
 -- Laws of replies: a text that has place in the room, or none of it. Assumes nothing.
-use Rattle.std.specs.Prelude.{◌≡◌, refl, Bool, true, false, cond, Option, Some, None, List, [], ◌∷◌, map, ℕ, suc, ◌≤◌, ◌<◌, length}
+use Rattle.std.specs.Prelude.{◌≡◌, refl, Bool, true, false, cond, Option, Some, None, Ok, Err, List, [], ◌∷◌, map, ℕ, suc, ◌≤◌, ◌<◌, length}
 use Rattle.std.proofs.Common.{sym, ap, ◌∙◌, subst, arith, ne_eqb}
 use Rattle.row.specs.own.Row.{row_hasb}
 use Rattle.text.specs.Split.{fields}
@@ -11,6 +11,7 @@ use Rattle.store.specs.Cell.{Cell, cell_of}
 use Rattle.store.specs.Cell.Cell.{In}
 use Rattle.store.specs.Layout.{ClosedStore, Holds}
 use Rattle.sheet.specs.declared.Ended.{Ended}
+use Rattle.sheet.specs.declared.Refused.{Refused}
 use Rattle.field.specs.declared.Form.TheVariants as form
 use Rattle.field.specs.declared.StatementWord.{StatementWord}
 use Rattle.field.specs.Names.{Names, counts_of}
@@ -87,12 +88,12 @@ asked-accepted {sheet} a = record { width = a.sheet_said.width; said = a.sheet_s
 
 -- ---- what is known of the sheet
 
-pub known-opens : {W : ℕ} {sheet s numbers u : List ℕ} {e : Ended} (w : Opens W sheet s numbers u e) → e.why ≡ 0 → Stored W sheet (kept_table numbers e) u
+pub known-opens : {W : ℕ} {sheet s numbers u : List ℕ} {e : Ended} (w : Opens W sheet s numbers u e) {v : Unit {0}} → e.read ≡ Ok v → Stored W sheet (kept_table numbers e) u
 known-opens w z = record { said = w.said; ends = opens-outcome w z; names = w.names; counts = opens-counts w; held = opens-held w z }
 
 -- a refused sheet
-pub reply-refused : {W : ℕ} {sheet s numbers u question room exit : List ℕ} {e : Ended} {r : ℕ} → Opens W sheet s numbers u e → (e.why ≡ 0 → ⊥) → Fitted (refused_text e.line e.why) room exit r → Replies W sheet question room exit r
-reply-refused {e = e} w z f = record { text = refused_text e.line e.why; answers = refused {n = e.line} {k = e.why} {x = w.said} (w.ends ∙ rw (ne_eqb _ _ z)); fitted = f }
+pub reply-refused : {W : ℕ} {sheet s numbers u question room exit : List ℕ} {e : Ended} {r : ℕ} → Opens W sheet s numbers u e → {q : Refused} → e.read ≡ Err q → Fitted (refused_text q.line q.why) room exit r → Replies W sheet question room exit r
+reply-refused w {q} z f = record { text = refused_text q.line q.why; answers = refused {n = q.line} {k = q.why} {x = w.said} (w.ends ∙ rw z); fitted = f }
 
 -- a question asks for one cell
 asks-unique : {n : Names} {q : List ℕ} {c d : Cell} → AsksCell n q c → AsksCell n q d → c ≡ d

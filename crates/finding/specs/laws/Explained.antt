@@ -1,16 +1,16 @@
 -- From the parts of the search to the promise for a finding. Assumes nothing.
-use Rattle.std.specs.Prelude.{◌≡◌, refl, Option, Some, None, List, ℕ, length}
+use Rattle.std.specs.Prelude.{◌≡◌, refl, Option, Some, None, Ok, Err, List, ℕ, length}
 use Rattle.std.proofs.Common.{sym, subst}
 use Rattle.store.specs.declared.Counts.{Counts}
 use Rattle.store.specs.Cell.Cell.{In}
 use Rattle.store.specs.Layout.{Holds, size, width_of}
 use Rattle.sheet.specs.declared.Ended.{Ended}
+use Rattle.sheet.specs.declared.Refused.{Refused}
 use Rattle.field.specs.Names.{counts_of}
 use Rattle.sheet.specs.own.Stands.{Opens, kept_table}
 use Rattle.sheet.specs.laws.Count.{opens-held, opens-outcome, whole-refused}
 use Rattle.finding.specs.Explained.{FindingExplained, explained_by}
 use Rattle.sheet.specs.Reading.{refusal_as}
-use Rattle.std.specs.Prelude.{Err}
 use Rattle.finding.specs.declared.Sides.{Sides}
 use Rattle.finding.specs.Finding.{BrokenSub, ExplainsFinding, concept}
 use Rattle.finding.specs.own.Sides.{Breaking, BrokenIf}
@@ -25,11 +25,11 @@ use Rattle.finding.specs.laws.Finding.{broken-in}
 
 module _ {sheet s numbers u : List ℕ} {e : Ended} (w : Opens (width_of s) sheet s numbers u e) (long : length s ≡ size (width_of s)) (k a : ℕ) (before : List ℕ) where
   -- a refused sheet
-  pub finding-refused : (e.why ≡ 0 → ⊥) → ExplainsFinding sheet s u k a before before (Err (refusal_as e.line e.why))
+  pub finding-refused : {q : Refused} → e.read ≡ Err q → ExplainsFinding sheet s u k a before before (Err q)
   finding-refused z = refused (whole-refused refl long w z).reads refl
 
   -- an accepted one
-  module _ (z : e.why ≡ 0) where
+  module _ {v : Unit {0}} (z : e.read ≡ Ok v) where
     counts-are : counts_of w.said.names ≡ e.kept.counts
     counts-are = opens-counts w
 

@@ -1,12 +1,13 @@
 -- From the rules that are judged in turn to the page. Assumes nothing.
-use Rattle.std.specs.Prelude.{◌≡◌, refl, true, List, [], ◌∷◌, ◌++◌, ℕ, ◌+◌, length, Option, Some}
-use Rattle.std.proofs.Common.{sym, ap, ◌∙◌, subst, ne_eqb}
+use Rattle.std.specs.Prelude.{◌≡◌, refl, true, List, [], ◌∷◌, ◌++◌, ℕ, ◌+◌, length, Option, Some, Ok, Err}
+use Rattle.std.proofs.Common.{sym, ap, ◌∙◌, subst}
 use Rattle.std.proofs.lemmas.List.Edits.{sets}
 use Rattle.row.specs.Bit.{Words}
 use Rattle.text.specs.Text.{Wrote}
 use Rattle.store.specs.Layout.{size, width_of}
 use Rattle.store.specs.laws.Cells.{keeps-unique}
 use Rattle.sheet.specs.declared.Ended.{Ended}
+use Rattle.sheet.specs.declared.Refused.{Refused}
 use Rattle.sheet.specs.declared.RuleLine.{RuleLine}
 use Rattle.field.specs.Names.{counts_of}
 use Rattle.sheet.specs.own.Pass.{Judges, found_rule}
@@ -33,11 +34,11 @@ turn-printed {q = q} w f c m z = let y = turn-rules w q f in printed-more (found
 
 module _ {W : ℕ} {sheet numbers t : List ℕ} {e : Ended} (w : Filled W sheet numbers t e) where
   -- a refused sheet
-  pub page-refused : {room exit : List ℕ} {r : ℕ} → (e.why ≡ 0 → ⊥) → Wrote room 0 (refused_text e.line e.why) exit r → Pages W sheet room exit r
-  page-refused z h = record { text = refused_text e.line e.why; prints = refused {n = e.line} {k = e.why} {x = w.opens.said} (w.opens.ends ∙ rw (ne_eqb _ _ z)); wrote = h }
+  pub page-refused : {room exit : List ℕ} {r : ℕ} → {q : Refused} → e.read ≡ Err q → Wrote room 0 (refused_text q.line q.why) exit r → Pages W sheet room exit r
+  page-refused {q = q} z h = record { text = refused_text q.line q.why; prints = refused {n = q.line} {k = q.why} {x = w.opens.said} (w.opens.ends ∙ rw z); wrote = h }
 
   -- an accepted one
-  module _ (z : e.why ≡ 0) where
+  module _ {v : Unit {0}} (z : e.read ≡ Ok v) where
     pub page-judges : Judges W sheet (kept_table numbers e) t
     page-judges = opens-judges w.opens z
 

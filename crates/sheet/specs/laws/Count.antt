@@ -1,5 +1,5 @@
 -- Laws of going through the rules of a sheet and counting their findings. Assumes nothing.
-use Rattle.std.specs.Prelude.{◌≡◌, refl, List, [], ◌∷◌, ◌++◌, ℕ, suc, ◌+◌, ◌*◌, ◌≤◌, length, Option, Some, None}
+use Rattle.std.specs.Prelude.{◌≡◌, refl, List, [], ◌∷◌, ◌++◌, ℕ, suc, ◌+◌, ◌*◌, ◌≤◌, length, Option, Some, None, Ok, Err}
 use Rattle.std.proofs.Common.{sym, ap, ◌∙◌, subst, append_assoc, append-nil, arith, eq-eqb, ne_eqb, length-append}
 use Rattle.store.specs.declared.Counts.{Counts}
 use Rattle.store.specs.declared.Layout.{Layout}
@@ -11,6 +11,7 @@ use Rattle.rule.specs.declared.Rule.{Rule}
 use Rattle.rule.specs.Findings.{Findings}
 use Rattle.judge.specs.own.Search.{Starts}
 use Rattle.sheet.specs.declared.Ended.{Ended}
+use Rattle.sheet.specs.declared.Refused.{Refused}
 use Rattle.line.specs.declared.Marks.{Marks}
 use Rattle.sheet.specs.Reading.{accepted_as, refused_as}
 use Rattle.sheet.specs.declared.RuleLine.{RuleLine}
@@ -115,12 +116,12 @@ reads_as : {sheet s t : List ℕ} {x : Said} {fs : List Finding} {n : Counts} {m
 reads_as e f g l o h a = rw (e, f, g) (accepted_read l o h a)
 
 -- an accepted sheet: its outcome, its store, its counts
-module _ {W : ℕ} {sheet s numbers t : List ℕ} {e : Ended} (w : Opens W sheet s numbers t e) (z : e.why ≡ 0) where
+module _ {W : ℕ} {sheet s numbers t : List ℕ} {e : Ended} (w : Opens W sheet s numbers t e) {v : Unit {0}} (z : e.read ≡ Ok v) where
   pub opens-outcome : outcome W sheet ≡ accepted w.said
-  opens-outcome = w.ends ∙ rw (eq-eqb _ _ z)
+  opens-outcome = w.ends ∙ rw z
 
   pub opens-held : Held W w.said t
-  opens-held = rw (eq-eqb _ _ z) at w.leaves
+  opens-held = rw z at w.leaves
 
   opens-counts : counts_of w.said.names ≡ e.kept.counts
   opens-counts = ap counts_of w.names ∙ counts_of-names_of sheet (kept_table numbers e) w.tidy
@@ -130,25 +131,25 @@ module _ {W : ℕ} {sheet s numbers t : List ℕ} {e : Ended} (w : Opens W sheet
 
   pub whole-accepted : {total : ℕ} → W ≡ width_of s → length s ≡ size W → Totalled W sheet (kept_table numbers e) t total
       → Wholly sheet s t numbers (record { answer = accepted_as e.kept.counts e.kept.marks.rules total; counts = e.kept.counts; start = e.start })
-  whole-accepted {total} v long c =
+  whole-accepted {total} wide long c =
       let a = c w.said opens-outcome w.names in
-      let o : outcome (width_of s) sheet ≡ accepted w.said = subst (λ (v : ℕ). outcome v sheet ≡ accepted w.said) v opens-outcome in
+      let o : outcome (width_of s) sheet ≡ accepted w.said = subst (λ (y : ℕ). outcome y sheet ≡ accepted w.said) wide opens-outcome in
       record {
-        reads = reads_as (sym opens-counts) (sym (ap (λ (m : Marks). m.rules) w.marks)) a.all (subst (λ (u : ℕ). length s ≡ size u) v long) o
-            (subst (λ (v : ℕ). Held v w.said t) v opens-held) (subst (λ (v : ℕ). FindingsIn v w.said t a.list) v a.findings);
+        reads = reads_as (sym opens-counts) (sym (ap (λ (m : Marks). m.rules) w.marks)) a.all (subst (λ (u : ℕ). length s ≡ size u) wide long) o
+            (subst (λ (y : ℕ). Held y w.said t) wide opens-held) (subst (λ (y : ℕ). FindingsIn y w.said t a.list) wide a.findings);
         tidy = w.tidy;
         names = λ x l q. ap (λ (y : Outcome). (said_of y).names) (sym q ∙ o) ∙ w.names;
-        start = λ x l q. subst (λ (u : ℕ). Since u sheet e.start) v (w.start z);
+        start = λ x l q. subst (λ (u : ℕ). Since u sheet e.start) wide (w.start v z);
       }
 
 -- a refused one
-pub whole-refused : {W : ℕ} {sheet s numbers t : List ℕ} {e : Ended} → W ≡ width_of s → length s ≡ size W → Opens W sheet s numbers t e → (e.why ≡ 0 → ⊥)
-    → Wholly sheet s t numbers (record { answer = refused_as e.line e.why; counts = e.kept.counts; start = e.start })
-whole-refused {W} {sheet} {s} {t = t} {e = e} v long w z =
-    let o : outcome W sheet ≡ refused e.line e.why w.said = w.ends ∙ rw (ne_eqb _ _ z) in
-    let q = subst (λ (v : ℕ). outcome v sheet ≡ refused e.line e.why w.said) v o in
+pub whole-refused : {W : ℕ} {sheet s numbers t : List ℕ} {e : Ended} → W ≡ width_of s → length s ≡ size W → Opens W sheet s numbers t e → {p : Refused} → e.read ≡ Err p
+    → Wholly sheet s t numbers (record { answer = Err p; counts = e.kept.counts; start = e.start })
+whole-refused {W} {sheet} {s} {t = t} {e = e} v long w {p} z =
+    let o : outcome W sheet ≡ refused p.line p.why w.said = w.ends ∙ rw z in
+    let q = subst (λ (v : ℕ). outcome v sheet ≡ refused p.line p.why w.said) v o in
     record {
-      reads = refused_read (subst (λ (u : ℕ). length s ≡ size u) v long) q (subst (λ (v : ℕ). Leaves v (refused e.line e.why w.said) s t) v (rw (ne_eqb _ _ z) at w.leaves));
+      reads = refused_read (subst (λ (u : ℕ). length s ≡ size u) v long) q (subst (λ (v : ℕ). Leaves v (refused p.line p.why w.said) s t) v (rw z at w.leaves));
       tidy = w.tidy;
       names = λ x l a. absurd (not-both (sym q ∙ a));
       start = λ x l a. absurd (not-both (sym q ∙ a));

@@ -1,5 +1,5 @@
 -- Laws of the lines of a sheet, one after the other. Assumes nothing.
-use Rattle.std.specs.Prelude.{◌≡◌, refl, Bool, true, false, cond, List, [], ◌∷◌, ℕ, ◌+◌, ◌≤◌, ◌<◌, eqb, length, replicate}
+use Rattle.std.specs.Prelude.{◌≡◌, refl, Bool, true, false, cond, Ok, Err, List, [], ◌∷◌, ℕ, ◌+◌, ◌≤◌, ◌<◌, eqb, length, replicate}
 use Rattle.std.proofs.Common.{sym, ap, ◌∙◌, arith, eq-eqb, eqb-true, ne_eqb}
 use Rattle.text.specs.Bytes.{every}
 use Rattle.text.specs.Name.{line_byte}
@@ -7,9 +7,11 @@ use Rattle.reader.specs.own.Scan.{line_at}
 use Rattle.text.specs.own.Split.{end_of, parts_from}
 use Rattle.text.specs.laws.Split.{end_ge, end-le, parts_next, parts_none}
 use Rattle.sheet.specs.declared.Kept.{Kept}
+use Rattle.sheet.specs.declared.Refused.{Refused}
 use Rattle.sheet.specs.declared.Start.{Start}
 use Rattle.line.specs.declared.Marks.{Marks}
 use Rattle.line.specs.Fault.{line_fault, line_limit, sheet_limit}
+use Rattle.sheet.specs.Reading.{refusal_as}
 use Rattle.sheet.specs.Said.{Outcome, Said, SheetRule, line_said, marks_of, nothing, outcome_from}
 use Rattle.sheet.specs.own.Stands.{Beginning, Came, Comes, Ends, Stands, blank_kept}
 use Rattle.store.specs.Layout.{item_limit, size}
@@ -50,10 +52,10 @@ no-rules x e = go x.rules e
 
 module _ {W : ℕ} {sheet : List ℕ} {o : Outcome} {at n : ℕ} {k : Kept} {numbers s : List ℕ} {b : Start} (h : length sheet ≤ sheet_limit) (r : Reads W sheet o at n k numbers s b) where
   -- no line is left
-  pub reads_end : length sheet < at → Ends W sheet o numbers s (record { line = 0; why = 0; kept = k; start = b })
+  pub reads_end : length sheet < at → Ends W sheet o numbers s (record { read = Ok tt; kept = k; start = b })
   unfolding outcome_from
   reads_end g =
-      record { said = r.said; stands = r.stands; ends = r.left ∙ rw (parts_none 10 sheet at g); near = omega arith; numbered = λ z. absurd (z refl); start = λ z. r.begins }
+      record { said = r.said; stands = r.stands; ends = r.left ∙ rw (parts_none 10 sheet at g); near = λ q z. absurd (cc); start = λ u z. r.begins }
 
   -- a line comes
   pub reads-comes : (line : List ℕ) {good : Bool} {ends : List ℕ} → at ≤ length sheet → line ≡ line_at sheet at → good ≡ every line_byte line → (length line ≤ line_limit → Looked line ends)
@@ -93,14 +95,13 @@ module _ {W : ℕ} {sheet : List ℕ} {o : Outcome} {at n : ℕ} {k : Kept} {num
         go true q = record { said = said; rules = no-rules said (ap (λ (m : Marks). m.rules) stands.marks ∙ eqb-true _ _ q); rest = sym left; inside = inside; near = near }
         go false q = r.begins
 
-    pub reads-stop : (why ≡ 0 → ⊥) → Ends W sheet o numbers' s' (record { line = n; why = why; kept = k'; start = b })
+    pub reads-stop : (why ≡ 0 → ⊥) → Ends W sheet o numbers' s' (record { read = Err (refusal_as n why); kept = k'; start = b })
     unfolding outcome_from
     reads-stop z =
         record {
           said = r.said;
           stands = came.left z n r.said r.stands;
           ends = parted ∙ rw (← judged, ne_eqb why 0 z);
-          near = omega (arith, r.near);
-          numbered = λ q. omega (arith, r.later);
-          start = λ q. absurd (z q);
+          near = λ q f. let g : refusal_as n why ≡ q = cc in (omega (arith, r.later, ap (λ (p : Refused). p.line) g), omega (arith, r.near, ap (λ (p : Refused). p.line) g));
+          start = λ u f. absurd (cc);
         }

@@ -1,5 +1,5 @@
 -- Laws of a whole sheet. Assumes nothing.
-use Rattle.std.specs.Prelude.{◌≡◌, refl, List, ◌∷◌, length, replicate}
+use Rattle.std.specs.Prelude.{◌≡◌, refl, Ok, Err, List, ◌∷◌, length, replicate}
 use Rattle.std.proofs.Common.{sym, ap, ◌∙◌, subst, eq-eqb, le-leb, ne_eqb, ext_get_or, ℕ, zero, suc, ◌+◌, ◌-◌, ◌≤◌, ◌<◌, zero-le, arith}
 use Rattle.std.proofs.lemmas.Bool.{lt-leb}
 use Rattle.std.proofs.lemmas.List.{get_or-replicate, length-replicate}
@@ -8,10 +8,12 @@ use Rattle.text.specs.own.Split.{part_of, end_of, parts_from}
 use Rattle.text.specs.laws.Split.{parts_all, parts_next}
 use Rattle.store.specs.Layout.{item_limit, size}
 use Rattle.sheet.specs.declared.Ended.{Ended}
+use Rattle.sheet.specs.declared.Refused.{Refused}
 use Rattle.sheet.specs.declared.Start.{Start}
 use Rattle.line.specs.declared.Marks.{Marks}
 use Rattle.line.specs.Fault.{begun, header_fault, room_by, sheet_limit}
 use Rattle.sheet.specs.Promise.{Leaves, Stopped}
+use Rattle.sheet.specs.Reading.{refusal_as}
 use Rattle.sheet.specs.Said.{Said, marks_of, nothing, outcome, outcome_from, outcome_of}
 use Rattle.sheet.specs.Said.Outcome.{refused}
 use Rattle.sheet.specs.own.Stands.{Begins, Ends, Opens, Stands, blank_kept, kept_table, too_long}
@@ -48,7 +50,7 @@ blank_stands W sheet numbers room h e f =
 pub opens-long : (W : ℕ) (sheet s numbers : List ℕ) → items_from ≤ length numbers → room_of numbers ≡ 0 → sheet_limit < length sheet → Opens W sheet s numbers s too_long
 unfolding outcome
 opens-long W sheet s numbers l e h =
-    record { said = nothing 0; names = ap no_names (sym e); marks = refl; tidy = none-tidy sheet numbers l; ends = rw (lt-leb _ _ h); leaves = refl; near = omega arith; start = λ z. absurd (omega arith) }
+    record { said = nothing 0; names = ap no_names (sym e); marks = refl; tidy = none-tidy sheet numbers l; ends = rw (lt-leb _ _ h); leaves = refl; near = λ q z. let g : refusal_as 0 9 ≡ q = cc in omega (arith, ap (λ (r : Refused). r.line) g); start = λ u z. absurd (cc) }
 
 -- ---- line 1
 
@@ -67,10 +69,10 @@ module _ (W : ℕ) (sheet : List ℕ) (e why : ℕ) (h : length sheet ≤ sheet_
   header-stop z = lines-all ∙ rw (← fault, ne_eqb _ _ z)
 
 -- a faulty line 1
-pub ends-header : (W : ℕ) (sheet numbers s : List ℕ) (why : ℕ) (b : Start) → Stands W sheet (table_of numbers blank_kept.counts) blank_kept.marks s (nothing 0) → outcome W sheet ≡ refused 1 why (nothing 0) → (why ≡ 0 → ⊥)
-    → Ends W sheet (outcome W sheet) numbers s (record { line = 1; why = why; kept = blank_kept; start = b })
-ends-header W sheet numbers s why b st e z =
-    record { said = nothing 0; stands = st; ends = e ∙ rw (ne_eqb _ _ z); near = omega arith; numbered = λ q. omega arith; start = λ q. absurd (z q) }
+pub ends-header : (W : ℕ) (sheet numbers s : List ℕ) (why : ℕ) (b : Start) → Stands W sheet (table_of numbers blank_kept.counts) blank_kept.marks s (nothing 0) → outcome W sheet ≡ refused 1 why (nothing 0)
+    → Ends W sheet (outcome W sheet) numbers s (record { read = Err (refusal_as 1 why); kept = blank_kept; start = b })
+ends-header W sheet numbers s why b st e =
+    record { said = nothing 0; stands = st; ends = e; near = λ q f. let g : refusal_as 1 why ≡ q = cc in (omega (arith, ap (λ (r : Refused). r.line) g), omega (arith, ap (λ (r : Refused). r.line) g)); start = λ u f. absurd (cc) }
 
 -- ---- how it ends
 
@@ -80,21 +82,21 @@ leaves-line W (suc n) k x s t h st = st
 
 module _ (W : ℕ) (sheet s numbers t : List ℕ) (r : Ended) (e : Ends W sheet (outcome W sheet) numbers t r) where
   -- at a faulty line
-  pub opens-stop : (r.why ≡ 0 → ⊥) → Opens W sheet s numbers t r
-  opens-stop z =
+  pub opens-stop : {q : Refused} → r.read ≡ Err q → Opens W sheet s numbers t r
+  opens-stop {q} z =
       record {
         said = e.said;
         names = e.stands.names;
         marks = e.stands.marks;
         tidy = e.stands.tidy;
         ends = e.ends;
-        leaves = rw (ne_eqb _ _ z) (leaves-line W r.line r.why e.said s t (e.numbered z) (subst (λ (m : Marks). Stopped W (begun m) e.said t) (sym e.stands.marks) e.stands.store));
-        near = e.near;
+        leaves = rw z (leaves-line W q.line q.why e.said s t (e.near q z).0 (subst (λ (m : Marks). Stopped W (begun m) e.said t) (sym e.stands.marks) e.stands.store));
+        near = λ q f. (e.near q f).1;
         start = e.start;
       }
 
   -- without one: the store is fresh at the latest now
-  pub opens-end : r.why ≡ 0 → (u : List ℕ) → Begins W (begun r.kept.marks) r.kept.counts t u → Opens W sheet s numbers u r
+  pub opens-end : {v : Unit {0}} → r.read ≡ Ok v → (u : List ℕ) → Begins W (begun r.kept.marks) r.kept.counts t u → Opens W sheet s numbers u r
   opens-end z u b =
       record {
         said = e.said;
@@ -102,7 +104,7 @@ module _ (W : ℕ) (sheet s numbers t : List ℕ) (r : Ended) (e : Ends W sheet 
         marks = e.stands.marks;
         tidy = e.stands.tidy;
         ends = e.ends;
-        leaves = rw (eq-eqb _ _ z) (rw (e.stands.names, counts_of-names_of sheet (kept_table numbers r) e.stands.tidy) (begun-keeps e.stands b));
-        near = e.near;
+        leaves = rw z (rw (e.stands.names, counts_of-names_of sheet (kept_table numbers r) e.stands.tidy) (begun-keeps e.stands b));
+        near = λ q f. (e.near q f).1;
         start = e.start;
       }

@@ -1,5 +1,5 @@
 -- The reader's records and the lent store stand for what was said so far.
-use Rattle.std.specs.Prelude.{◌≡◌, Bool, true, false, cond, List, [], ℕ, ◌+◌, ◌≤◌, eqb, length}
+use Rattle.std.specs.Prelude.{◌≡◌, Bool, true, false, cond, Result, Ok, Err, List, [], ℕ, ◌+◌, ◌≤◌, length}
 use Rattle.text.specs.Bytes.{every}
 use Rattle.text.specs.Name.{is_name, line_byte}
 use Rattle.text.specs.Split.{fields}
@@ -12,10 +12,12 @@ use Rattle.store.specs.Layout.{Holds, item_limit, size}
 use Rattle.store.specs.Keeps.{Keeps}
 use Rattle.sheet.specs.declared.Ended.{Ended}
 use Rattle.sheet.specs.declared.Kept.{Kept}
+use Rattle.sheet.specs.declared.Refused.{Refused}
 use Rattle.sheet.specs.declared.Start.{Start}
 use Rattle.line.specs.declared.Marks.{Marks}
 use Rattle.line.specs.Fault.{begun, line_fault, line_limit, rule_limit, sheet_limit}
 use Rattle.sheet.specs.Promise.{Leaves, Stopped}
+use Rattle.sheet.specs.Reading.{refusal_as}
 use Rattle.sheet.specs.Said.{Outcome, Said, line_said, marks_of, outcome, outcome_from}
 use Rattle.sheet.specs.Said.Outcome.{accepted, refused}
 use Rattle.field.specs.declared.Form.TheVariants as form
@@ -110,9 +112,10 @@ one_stated k = record { counts = k.counts; marks = record { stated = true; rules
 abbrev pub one_rule : Kept → Kept
 one_rule k = record { counts = k.counts; marks = record { stated = k.marks.stated; rules = k.marks.rules + 1 } }
 
--- how lines end: at a line with a number of refusal, or with 0
-abbrev pub ending : ℕ → ℕ → Said → Outcome
-ending line why x = cond (eqb why 0) (accepted x) (refused line why x)
+-- how lines end: accepted, or refused at a line with a number of refusal
+abbrev pub ending : Result (Unit {0}) Refused → Said → Outcome
+ending (Ok u) x = accepted x
+ending (Err q) x = refused q.line q.why x
 
 -- the rules of a sheet whose outcome is o begin at a place, or after it: no rule was said before
 pub record Beginning (sheet : List ℕ) (o : Outcome) (b : Start) : Type 0 where
@@ -134,14 +137,13 @@ kept_table numbers r = table_of numbers r.kept.counts
 pub record Ends (W : ℕ) (sheet : List ℕ) (o : Outcome) (numbers s : List ℕ) (r : Ended) : Type 0 where
   pub said : Said
   pub stands : Stands W sheet (kept_table numbers r) r.kept.marks s said
-  pub ends : o ≡ ending r.line r.why said
-  pub near : r.line ≤ sheet_limit + 2
-  pub numbered : (r.why ≡ 0 → ⊥) → 1 ≤ r.line
-  pub start : r.why ≡ 0 → Beginning sheet o r.start
+  pub ends : o ≡ ending r.read said
+  pub near : (q : Refused) → r.read ≡ Err q → (1 ≤ q.line) × (q.line ≤ sheet_limit + 2)
+  pub start : (u : Unit {0}) → r.read ≡ Ok u → Beginning sheet o r.start
 
 -- how a sheet ends that is too long
 abbrev pub too_long : Ended
-too_long = record { line = 0; why = 9; kept = blank_kept; start = record { at = 0; line = 0 } }
+too_long = record { read = Err (refusal_as 0 9); kept = blank_kept; start = record { at = 0; line = 0 } }
 
 -- a whole sheet ended so: what is kept, the numbers lent for names afterwards, and the lent words, s before and t afterwards
 pub record Opens (W : ℕ) (sheet s numbers t : List ℕ) (r : Ended) : Type 0 where
@@ -149,10 +151,10 @@ pub record Opens (W : ℕ) (sheet s numbers t : List ℕ) (r : Ended) : Type 0 w
   pub names : said.names ≡ names_of sheet (kept_table numbers r)
   pub marks : marks_of said ≡ r.kept.marks
   pub tidy : Tidy sheet (kept_table numbers r)
-  pub ends : outcome W sheet ≡ ending r.line r.why said
-  pub leaves : Leaves W (ending r.line r.why said) s t
-  pub near : r.line ≤ sheet_limit + 2
-  pub start : r.why ≡ 0 → Since W sheet r.start
+  pub ends : outcome W sheet ≡ ending r.read said
+  pub leaves : Leaves W (ending r.read said) s t
+  pub near : (q : Refused) → r.read ≡ Err q → q.line ≤ sheet_limit + 2
+  pub start : (u : Unit {0}) → r.read ≡ Ok u → Since W sheet r.start
 
 -- the same, whatever the words were before
 abbrev pub Fills : ℕ → List ℕ → List ℕ → List ℕ → Ended → Type 0

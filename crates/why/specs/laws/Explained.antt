@@ -1,10 +1,11 @@
 -- From the parts of the search to the promise. Assumes nothing.
-use Rattle.std.specs.Prelude.{◌≡◌, refl, List, ℕ, length}
+use Rattle.std.specs.Prelude.{◌≡◌, refl, Ok, Err, List, ℕ, length}
 use Rattle.std.proofs.Common.{sym, ap, ◌∙◌, subst}
 use Rattle.store.specs.declared.Counts.{Counts}
 use Rattle.store.specs.Cell.{Cell}
 use Rattle.store.specs.Layout.{Holds, size, width_of}
 use Rattle.sheet.specs.declared.Ended.{Ended}
+use Rattle.sheet.specs.declared.Refused.{Refused}
 use Rattle.field.specs.Names.{counts_of}
 use Rattle.sheet.specs.own.Pass.{Accepts}
 use Rattle.sheet.specs.Said.{Said}
@@ -15,7 +16,6 @@ use Rattle.field.specs.own.Table.{Table}
 use Rattle.field.specs.laws.Table.{counts_of-names_of}
 use Rattle.why.specs.Explained.{Explained}
 use Rattle.sheet.specs.Reading.{refusal_as}
-use Rattle.std.specs.Prelude.{Ok, Err}
 use Rattle.why.specs.Listed.{lines_of}
 use Rattle.why.specs.laws.Listed.{listed-none}
 use Rattle.why.specs.own.Asked.{Asked, Of, ReasonMarked}
@@ -35,11 +35,11 @@ opens-counts {sheet} {numbers = numbers} {e = e} w = ap counts_of w.names ∙ co
 
 module _ {sheet s numbers u : List ℕ} {e : Ended} (w : Opens (width_of s) sheet s numbers u e) (long : length s ≡ size (width_of s)) (c : Cell) (before : List ℕ) where
   -- a refused sheet
-  pub explains-refused : (e.why ≡ 0 → ⊥) → Explains sheet s u c before before (Err (refusal_as e.line e.why))
+  pub explains-refused : {q : Refused} → e.read ≡ Err q → Explains sheet s u c before before (Err q)
   explains-refused z = refused (whole-refused refl long w z).reads refl
 
   -- an accepted one
-  module _ (z : e.why ≡ 0) where
+  module _ {v : Unit {0}} (z : e.read ≡ Ok v) where
     counts-are : counts_of w.said.names ≡ e.kept.counts
     counts-are = opens-counts w
 
