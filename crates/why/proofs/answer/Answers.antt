@@ -20,9 +20,9 @@ fill-e-requires c = let e = c.layout_of-at.ensures in (rw e c.requires.0, laid_b
 pub returns-then-e-ne0 : goal.returns-then-e-ne0
 returns-then-e-ne0 c = explains-refused (rw c.layout_of-at.ensures at c.fill-e.ensures) (c.long.ensures.holds c.if-not-long.false) (cell_of c.args.cell) c.args.room.now c.if-e-ne0.true
 
-pub told-requires : goal.told-requires
-told-requires c = let s = (opens-judges c.fill-e.ensures c.if-e-ne0.false).store in
-    (laid_of c.layout_of-at.ensures (rw c.layout_of-at.ensures at s.long) (width-wide _), s)
+pub invariant_of-view : goal.invariant_of-view
+invariant_of-view c = let s = (opens-judges c.fill-e.ensures c.if-e-ne0.false).store in
+    record { laid = laid_of c.layout_of-at.ensures (rw c.layout_of-at.ensures at s.long) (width-wide _); closed = s }
 
 pub returns-then-not-told : goal.returns-then-not-told
 returns-then-not-told c = explains-not (rw c.layout_of-at.ensures at c.fill-e.ensures) (c.long.ensures.holds c.if-not-long.false) (cell_of c.args.cell) c.args.room.now c.if-e-ne0.false ((rw c.layout_of-at.ensures at c.told.ensures).fails c.if-not-told.true)

@@ -5,8 +5,8 @@ use Rattle.answer.proofs.reply.cell.Goals as goal
 pub returns-in_default : goal.returns-in_default
 returns-in_default c = cell-none c.requires.0 c.args.q.now c.in_default.ensures c.refuse.ensures
 
-pub told-requires : goal.told-requires
-told-requires c = (c.requires.1, (known-judges c.requires.0 c.args.known.now.tidy).store)
+pub invariant_of-view : goal.invariant_of-view
+invariant_of-view c = record { laid = c.requires.1; closed = (known-judges c.requires.0 c.args.known.now.tidy).store }
 
 pub returns-then-not-told : goal.returns-then-not-told
 returns-then-not-told c = cell-false c.requires.0 c.args.q.now c.in-Some.s c.in-Some.ensures (c.told.ensures.fails c.if-not-told.true) c.refuse-then-not-told.ensures
