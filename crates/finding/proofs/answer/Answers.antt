@@ -26,11 +26,11 @@ broken-requires c = let j = opens-judges c.fill-e.ensures c.if-e-ne0.false in
 pub returns-in_default : goal.returns-in_default
 returns-in_default c = finding-not (rw c.layout_of-at.ensures at c.fill-e.ensures) (c.long.ensures.holds c.if-not-long.false) c.args.k c.args.a.0 c.args.room.now c.if-e-ne0.false (rw c.layout_of-at.ensures at c.in_default.ensures)
 
-pub list-total-requires : goal.list-total-requires
-list-total-requires c = (
+pub list-lines-requires : goal.list-lines-requires
+list-lines-requires c = (
   finding-asked (rw c.layout_of-at.ensures at c.fill-e.ensures) (c.long.ensures.holds c.if-not-long.false) c.args.k c.args.a.0 c.args.room.now c.if-e-ne0.false c.in-Some.s (rw c.layout_of-at.ensures at c.in-Some.ensures),
   searched-by c.layout_of-at.ensures (width_some _) (opens-judges c.fill-e.ensures c.if-e-ne0.false).store.fits c.requires.1,
 )
 
 pub returns : goal.returns
-returns c = finding-found (rw c.layout_of-at.ensures at c.fill-e.ensures) (c.long.ensures.holds c.if-not-long.false) c.args.k c.args.a.0 c.args.room.now c.if-e-ne0.false c.in-Some.s (rw c.layout_of-at.ensures at c.in-Some.ensures) c.list-total.ensures
+returns c = finding-found (rw c.layout_of-at.ensures at c.fill-e.ensures) (c.long.ensures.holds c.if-not-long.false) c.args.k c.args.a.0 c.args.room.now c.if-e-ne0.false c.in-Some.s (rw c.layout_of-at.ensures at c.in-Some.ensures) c.list-lines.ensures
