@@ -123,7 +123,10 @@ fn answer(
     let at = store::size::layout_of(words);
     let e = sheet::sheets::fill(sheet, words, at, names);
     if e.why != 0 {
-        return Err(Refused { line: e.line, why: e.why });
+        return Err(Refused {
+            line: e.line,
+            why: e.why,
+        });
     }
     let known = Known {
         sheet,

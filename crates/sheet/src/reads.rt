@@ -72,7 +72,10 @@ pub fn whole(sheet: &[u8], words: &mut [u64], names: &mut [u32]) -> Whole
         };
     }
     Whole {
-        answer: Err(Refused { line: e.line, why: e.why }),
+        answer: Err(Refused {
+            line: e.line,
+            why: e.why,
+        }),
         counts,
         start,
     }
