@@ -71,11 +71,7 @@ pub fn add_all(words: &mut [u64], counts: Counts, statements: &[u64], answers: &
     }
     let at = store::size::layout_of(words);
     if !closed::is_closed(words, at, counts) {
-        fill(
-            answers,
-            count,
-            refusal::signed(Err(Refusal::NotClosed)),
-        );
+        fill(answers, count, refusal::signed(Err(Refusal::NotClosed)));
         return count;
     }
     turns(words, at, counts, statements, answers, count);

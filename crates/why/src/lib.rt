@@ -141,7 +141,12 @@ fn explain_with<const N: usize, const T: usize>(
 
 // Reads a sheet into the lent store, and lists statement lines from which a cell follows, and from no part of them with a line taken out: the first ones as far as the list reaches; says how
 // many they are in all, or why not. The cell is given as the statement that states it.
-pub fn explain(sheet: &[u8], words: &mut [u64], cell: Statement, room: &mut [u32]) -> Result<usize, Refused>
+pub fn explain(
+    sheet: &[u8],
+    words: &mut [u64],
+    cell: Statement,
+    room: &mut [u32],
+) -> Result<usize, Refused>
     ensures { Explains sheet.now words.old words.new (cell_of cell) room.old room.new result }
 {
     if words.len() == Store::LARGE_WORDS {

@@ -102,6 +102,6 @@ module _ {W : ℕ} {sheet : List ℕ} {o : Outcome} {at n : ℕ} {k : Kept} {num
           said = r.said;
           stands = came.left z n r.said r.stands;
           ends = parted ∙ rw (← judged, ne_eqb why 0 z);
-          near = λ q f. let g : refusal_as n why ≡ q = cc in (omega (arith, r.later, ap (λ (p : Refused). p.line) g), omega (arith, r.near, ap (λ (p : Refused). p.line) g));
+          near = λ q f. let e1 : refusal_as n why ≡ q = cc in let l = ap (λ (p : Refused). p.line) e1 in (omega (arith, r.later, l), omega (arith, r.near, g, h, l));
           start = λ u f. absurd (cc);
         }

@@ -1,5 +1,5 @@
 -- Laws of a whole sheet. Assumes nothing.
-use Rattle.std.specs.Prelude.{◌≡◌, refl, Ok, Err, List, ◌∷◌, length, replicate}
+use Rattle.std.specs.Prelude.{◌≡◌, refl, true, false, Result, Ok, Err, is_ok, List, ◌∷◌, length, replicate}
 use Rattle.std.proofs.Common.{sym, ap, ◌∙◌, subst, eq-eqb, le-leb, ne_eqb, ext_get_or, ℕ, zero, suc, ◌+◌, ◌-◌, ◌≤◌, ◌<◌, zero-le, arith}
 use Rattle.std.proofs.lemmas.Bool.{lt-leb}
 use Rattle.std.proofs.lemmas.List.{get_or-replicate, length-replicate}
@@ -76,6 +76,11 @@ ends-header W sheet numbers s why b st e =
 
 -- ---- how it ends
 
+-- read to its end
+pub read-whole : {r : Result (Unit {0}) Refused} → is_ok r ≡ true → r ≡ Ok tt
+read-whole {Ok u} e = refl
+read-whole {Err q} e = absurd (cc)
+
 leaves-line : (W n k : ℕ) (x : Said) (s t : List ℕ) → 1 ≤ n → Stopped W (begun (marks_of x)) x t → Leaves W (refused n k x) s t
 leaves-line W zero k x s t h st = absurd (omega arith)
 leaves-line W (suc n) k x s t h st = st
@@ -94,6 +99,14 @@ module _ (W : ℕ) (sheet s numbers t : List ℕ) (r : Ended) (e : Ends W sheet 
         near = λ q f. (e.near q f).1;
         start = e.start;
       }
+
+  -- the same, by what the reading gave
+  pub opens-not : is_ok r.read ≡ false → Opens W sheet s numbers t r
+  opens-not f = go r.read refl f
+    where
+      go : (x : Result (Unit {0}) Refused) → r.read ≡ x → is_ok x ≡ false → Opens W sheet s numbers t r
+      go (Ok u) z g = absurd (cc)
+      go (Err q) z g = opens-stop z
 
   -- without one: the store is fresh at the latest now
   pub opens-end : {v : Unit {0}} → r.read ≡ Ok v → (u : List ℕ) → Begins W (begun r.kept.marks) r.kept.counts t u → Opens W sheet s numbers u r

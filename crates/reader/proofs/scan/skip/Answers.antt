@@ -22,4 +22,3 @@ returns-else-m-eq0 c = skip-word c.eight.result _ c.loop-i.invariant (λ i. (c.t
 
 pub skip_one-requires-2 : goal.skip_one-requires-2
 skip_one-requires-2 c = skip-none _ _ c.requires
-

@@ -17,10 +17,10 @@ fill-e-requires c = let e = c.layout_of-at.ensures in
     (rw e c.requires, laid_by e (c.long.ensures.holds c.if-not-long.false), rw e (width_some _))
 
 pub count_all-total-requires : goal.count_all-total-requires
-count_all-total-requires c = (opens-judges c.fill-e.ensures c.if-e-eq0.true, c.fill-e.ensures.start c.if-e-eq0.true, laid_of c.layout_of-at.ensures ((opens-held c.fill-e.ensures c.if-e-eq0.true).store.long ∙ ap size (ap (λ (at : Layout). at.width) c.layout_of-at.ensures)) (width-wide _))
+count_all-total-requires c = (opens-judges c.fill-e.ensures c.in_default.is, c.fill-e.ensures.start _ c.in_default.is, laid_of c.layout_of-at.ensures ((opens-held c.fill-e.ensures c.in_default.is).store.long ∙ ap size (ap (λ (at : Layout). at.width) c.layout_of-at.ensures)) (width-wide _))
 
-pub returns-then-e-eq0 : goal.returns-then-e-eq0
-returns-then-e-eq0 c = whole-accepted c.fill-e.ensures c.if-e-eq0.true (ap (λ (at : Layout). at.width) c.layout_of-at.ensures) (c.long.ensures.holds c.if-not-long.false ∙ sym (ap size (ap (λ (at : Layout). at.width) c.layout_of-at.ensures))) c.count_all-total.ensures
+pub returns-in-Err : goal.returns-in-Err
+returns-in-Err c = whole-refused (ap (λ (at : Layout). at.width) c.layout_of-at.ensures) (c.long.ensures.holds c.if-not-long.false ∙ sym (ap size (ap (λ (at : Layout). at.width) c.layout_of-at.ensures))) c.fill-e.ensures c.in-Err.is
 
 pub returns : goal.returns
-returns c = whole-refused (ap (λ (at : Layout). at.width) c.layout_of-at.ensures) (c.long.ensures.holds c.if-not-long.false ∙ sym (ap size (ap (λ (at : Layout). at.width) c.layout_of-at.ensures))) c.fill-e.ensures c.if-e-eq0.false
+returns c = whole-accepted c.fill-e.ensures c.in_default.is (ap (λ (at : Layout). at.width) c.layout_of-at.ensures) (c.long.ensures.holds c.if-not-long.false ∙ sym (ap size (ap (λ (at : Layout). at.width) c.layout_of-at.ensures))) c.count_all-total.ensures
