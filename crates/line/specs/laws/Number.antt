@@ -21,11 +21,11 @@ number_some fault.Count = omega arith
 number_some fault.Nodes = omega arith
 
 -- no fault was found
-pub found-none : {r : Result (Unit {0}) Fault} → is_err r ≡ false → found r ≡ 0
-found-none {Ok u} e = refl
-found-none {Err f} e = absurd (cc)
+pub found-none : (r : Result (Unit {0}) Fault) → is_err r ≡ false → found r ≡ 0
+found-none (Ok u) e = refl
+found-none (Err f) e = absurd (cc)
 
 -- a fault was found
-pub found-some : {r : Result (Unit {0}) Fault} → is_err r ≡ true → found r ≡ 0 → ⊥
-found-some {Ok u} e z = cc
-found-some {Err f} e z = omega (arith, number_some f, z)
+pub found-some : (r : Result (Unit {0}) Fault) → is_err r ≡ true → found r ≡ 0 → ⊥
+found-some (Ok u) e z = cc
+found-some (Err f) e z = omega (arith, number_some f, z)

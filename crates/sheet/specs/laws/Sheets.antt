@@ -77,9 +77,9 @@ ends-header W sheet numbers s why b st e =
 -- ---- how it ends
 
 -- read to its end
-pub read-whole : {r : Result (Unit {0}) Refused} → is_ok r ≡ true → r ≡ Ok tt
-read-whole {Ok u} e = refl
-read-whole {Err q} e = absurd (cc)
+pub read-whole : (r : Result (Unit {0}) Refused) → is_ok r ≡ true → r ≡ Ok tt
+read-whole (Ok u) e = refl
+read-whole (Err q) e = absurd (cc)
 
 leaves-line : (W n k : ℕ) (x : Said) (s t : List ℕ) → 1 ≤ n → Stopped W (begun (marks_of x)) x t → Leaves W (refused n k x) s t
 leaves-line W zero k x s t h st = absurd (omega arith)
