@@ -1,11 +1,11 @@
-ghost use Rattle.std.specs.Prelude.{◌≡◌, None, cond, ◌≤◌, ◌<◌, get_or};
+ghost use Rattle.std.specs.Prelude.{◌≡◌, None, cond, ◌≤◌, ◌<◌, slice_get};
 ghost use Rattle.field.specs.Due.{is_expr, none};
 ghost use Rattle.field.specs.Names.{nodes_of};
 ghost use Rattle.due.specs.own.Pending.{Step, opening, pending, plenty};
 ghost use Rattle.field.specs.Words.{operator_of};
 
 use crate::{Lead, Pending};
-use field::{Due, Lineup, Operator};
+use field::{Due, Operator};
 
 // What is still due, by its parts.
 pub fn pend(lead: Option<Lead>, exprs: usize, own: usize) -> Pending
@@ -32,48 +32,48 @@ fn wants(o: Option<Operator>, m: usize, own: usize) -> Pending
 }
 
 // Whether nothing is due any more.
-pub fn none_left(l: Lineup, p: Pending) -> bool
-    ensures { result ≡ none (pending l p) }
+pub fn none_left(l: &[Due], p: Pending) -> bool
+    ensures { result ≡ none (pending l.now p) }
 {
     match p.lead {
-        None => p.exprs == 0 && (Lineup::MOST <= p.own || l.count <= p.own),
+        None => p.exprs == 0 && l.len() <= p.own,
         Some(_) => false,
     }
 }
 
-// What is due next.
-pub fn next_due(l: Lineup, p: Pending) -> Due
-    ensures { result ≡ get_or (pending l p) 0 Due.Nothing }
+// What is due next, if anything is.
+pub fn next_due(l: &[Due], p: Pending) -> Option<Due>
+    ensures { result ≡ slice_get (pending l.now p) 0 }
 {
     match p.lead {
         None => {
             if 0 < p.exprs {
-                return Due::Expr;
+                return Some(Due::Expr);
             }
-            crate::dues::due_at(l, p.own)
+            l.get(p.own).copied()
         }
-        Some(Lead::RoleUse) => Due::RoleUse,
-        Some(Lead::AtLeast) => Due::AtLeast,
-        Some(Lead::AtMost) => Due::AtMost,
-        Some(Lead::Item) => Due::Item,
+        Some(Lead::RoleUse) => Some(Due::RoleUse),
+        Some(Lead::AtLeast) => Some(Due::AtLeast),
+        Some(Lead::AtMost) => Some(Due::AtMost),
+        Some(Lead::Item) => Some(Due::Item),
     }
 }
 
 // What is still due after the next of the line-up's own dues, in a field with the word o.
-fn step_own(l: Lineup, own: usize, o: Option<Operator>) -> Pending
+fn step_own(l: &[Due], own: usize, o: Option<Operator>) -> Pending
     requires { own < plenty }
-    ensures { Step l (record { lead = None; exprs = 0; own = own }) o result }
+    ensures { Step l.now (record { lead = None; exprs = 0; own = own }) o result }
 {
-    if crate::dues::is_expr(crate::dues::due_at(l, own)) {
-        return wants(o, 0, own + 1);
+    match l.get(own) {
+        Some(Due::Expr) => wants(o, 0, own + 1),
+        _ => pend(None, 0, own + 1),
     }
-    pend(None, 0, own + 1)
 }
 
 // What is still due after one field more, which has the word o.
-pub fn step(l: Lineup, p: Pending, o: Option<Operator>) -> Pending
+pub fn step(l: &[Due], p: Pending, o: Option<Operator>) -> Pending
     requires { (p.exprs < plenty) × (p.own < plenty) }
-    ensures { Step l p o result }
+    ensures { Step l.now p o result }
 {
     match p.lead {
         None => {

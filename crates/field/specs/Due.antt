@@ -1,11 +1,9 @@
 -- What is due in the fields of a line, and whether there are too few fields or too many.
-use Rattle.std.specs.Prelude.{Option, Some, None}
-use Rattle.std.specs.Prelude.{Bool, true, false, cond, List, [], ◌∷◌, ◌++◌, ℕ, min, max, ◌+◌, take}
+use Rattle.std.specs.Prelude.{Option, Some, None, Bool, true, false, cond, List, [], ◌∷◌, ◌++◌, ℕ, min, max, ◌+◌, take}
 use Rattle.field.specs.declared.Due.{Due}
-use Rattle.field.specs.declared.Due.TheVariants.{NewConcept, NewRole, NewItem, Concept, Role, Item, RoleUse, AtLeast, AtMost, Expr, Nothing}
+use Rattle.field.specs.declared.Due.TheVariants.{NewConcept, NewRole, NewItem, Concept, Role, Item, RoleUse, AtLeast, AtMost, Expr}
 use Rattle.field.specs.declared.Form.{Form}
 use Rattle.field.specs.declared.Form.TheVariants as form
-use Rattle.field.specs.declared.Lineup.{Lineup}
 use Rattle.field.specs.declared.Operator.{Operator}
 use Rattle.field.specs.declared.Operator.TheVariants as operator
 use Rattle.field.specs.declared.RuleWord.{RuleWord}
@@ -15,16 +13,6 @@ use Rattle.field.specs.declared.StatementWord.TheVariants as statement
 use Rattle.field.specs.Words.{Field, operator_of}
 use Rattle.rule.specs.Form.{shortest, longest}
 
--- so many fields
-abbrev pub one : Due → Lineup
-one a = record { count = 1; first = a; second = Nothing; third = Nothing; fourth = Nothing; fifth = Nothing }
-
-abbrev pub two : Due → Due → Lineup
-two a b = record { count = 2; first = a; second = b; third = Nothing; fourth = Nothing; fifth = Nothing }
-
-abbrev pub three : Due → Due → Due → Lineup
-three a b c = record { count = 3; first = a; second = b; third = c; fourth = Nothing; fifth = Nothing }
-
 -- the fewest and the most roles of a chain: those of its path, 2 to 4, and the one that the path is under
 abbrev pub chain_shortest : ℕ
 chain_shortest = shortest + 1
@@ -33,44 +21,40 @@ abbrev pub chain_longest : ℕ
 chain_longest = longest + 1
 
 -- as many roles as there are fields, within these bounds
-abbrev pub chain : ℕ → Lineup
-chain n = record { count = max chain_shortest (min n chain_longest); first = RoleUse; second = RoleUse; third = RoleUse; fourth = RoleUse; fifth = RoleUse }
+abbrev pub chain : ℕ → List Due
+chain n = take (max chain_shortest (min n chain_longest)) (RoleUse ∷ RoleUse ∷ RoleUse ∷ RoleUse ∷ RoleUse ∷ [])
 
 -- what a statement's fields are
-abbrev pub statement_lineup : StatementWord → Lineup
-statement_lineup statement.In = two Item Concept
-statement_lineup statement.Rel = three Role Item Item
-statement_lineup statement.Same = two Item Item
-statement_lineup statement.Under = two Concept Concept
-statement_lineup statement.RoleUnder = two RoleUse RoleUse
+abbrev pub statement_lineup : StatementWord → List Due
+statement_lineup statement.In = Item ∷ Concept ∷ []
+statement_lineup statement.Rel = Role ∷ Item ∷ Item ∷ []
+statement_lineup statement.Same = Item ∷ Item ∷ []
+statement_lineup statement.Under = Concept ∷ Concept ∷ []
+statement_lineup statement.RoleUnder = RoleUse ∷ RoleUse ∷ []
 
 -- what a rule's fields are, of which there are n
-abbrev pub rule_lineup : RuleWord → ℕ → Lineup
-rule_lineup rule.Sub n = two Expr Expr
-rule_lineup rule.RoleSub n = two RoleUse RoleUse
+abbrev pub rule_lineup : RuleWord → ℕ → List Due
+rule_lineup rule.Sub n = Expr ∷ Expr ∷ []
+rule_lineup rule.RoleSub n = RoleUse ∷ RoleUse ∷ []
 rule_lineup rule.Chain n = chain n
-rule_lineup rule.Ref n = one RoleUse
-rule_lineup rule.Irr n = one RoleUse
-rule_lineup rule.Dis n = two RoleUse RoleUse
-rule_lineup rule.In n = two Expr Item
-rule_lineup rule.Rel n = three RoleUse Item Item
-rule_lineup rule.NoRel n = three RoleUse Item Item
-rule_lineup rule.Same n = two Item Item
-rule_lineup rule.Differ n = two Item Item
+rule_lineup rule.Ref n = RoleUse ∷ []
+rule_lineup rule.Irr n = RoleUse ∷ []
+rule_lineup rule.Dis n = RoleUse ∷ RoleUse ∷ []
+rule_lineup rule.In n = Expr ∷ Item ∷ []
+rule_lineup rule.Rel n = RoleUse ∷ Item ∷ Item ∷ []
+rule_lineup rule.NoRel n = RoleUse ∷ Item ∷ Item ∷ []
+rule_lineup rule.Same n = Item ∷ Item ∷ []
+rule_lineup rule.Differ n = Item ∷ Item ∷ []
 
 -- what a line's fields are after its word or words, of which there are n; `rule` alone wants its word
-abbrev pub lineup_of : Form → ℕ → Lineup
-lineup_of form.Concept n = one NewConcept
-lineup_of form.Role n = one NewRole
-lineup_of form.Item n = one NewItem
+abbrev pub lineup_of : Form → ℕ → List Due
+lineup_of form.Concept n = NewConcept ∷ []
+lineup_of form.Role n = NewRole ∷ []
+lineup_of form.Item n = NewItem ∷ []
 lineup_of (form.Statement w) n = statement_lineup w
 lineup_of (form.Rule w) n = rule_lineup w n
-lineup_of form.Bare n = one Expr
-lineup_of form.Unknown n = one Nothing
-
--- the same as a list
-abbrev pub dues : Lineup → List Due
-dues l = take l.count (l.first ∷ l.second ∷ l.third ∷ l.fourth ∷ l.fifth ∷ [])
+lineup_of form.Bare n = Expr ∷ []
+lineup_of form.Unknown n = []
 
 -- what a word of an expression wants after it
 abbrev pub wanted : Option Operator → List Due
@@ -99,7 +83,6 @@ is_expr RoleUse = false
 is_expr AtLeast = false
 is_expr AtMost = false
 is_expr Expr = true
-is_expr Nothing = false
 
 -- what is due after the field f, in which d was due before the ds: where that was an expression, first what its word wants
 abbrev pub next : Due → Field → List Due → List Due

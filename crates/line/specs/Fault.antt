@@ -10,7 +10,7 @@ use Rattle.field.specs.declared.Form.{Form}
 use Rattle.line.specs.declared.Marks.{Marks}
 use Rattle.field.specs.declared.Section.{Section}
 use Rattle.field.specs.declared.Section.TheVariants as section
-use Rattle.field.specs.Due.{lineup_of, dues, fits, none}
+use Rattle.field.specs.Due.{lineup_of, fits, none}
 use Rattle.field.specs.Names.{Names, fault, lower_fault, field_faults, nodes_in}
 use Rattle.field.specs.Words.{Field, form_of, body_of, section_of}
 
@@ -52,10 +52,10 @@ full m None = false
 -- what is wrong with the fields of a line: the lowest number that applies, or 0
 unfoldable pub fields_fault : Names → Marks → Form → List Field → ℕ
 fields_fault n m f body =
-    fault (not (fits (dues (lineup_of f (length body))) body)) 14
-    (lower_fault (field_faults n (dues (lineup_of f (length body))) body)
+    fault (not (fits (lineup_of f (length body)) body)) 14
+    (lower_fault (field_faults n (lineup_of f (length body)) body)
     (fault (full m (section_of f)) 18
-    (fault (ltb node_limit (nodes_in (dues (lineup_of f (length body))) body)) 21 0)))
+    (fault (ltb node_limit (nodes_in (lineup_of f (length body)) body)) 21 0)))
 
 -- the same by its form
 unfoldable pub form_fault : Names → Marks → Form → List Field → ℕ

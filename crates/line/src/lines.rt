@@ -88,7 +88,13 @@ fn form_fault(known: &Known, m: Marks, fields: &Fields) -> Result<(), Fault>
 
 // What is wrong with a line after the first, whose bytes are good or not, and which was looked at if it is not too long: the lowest fault that applies, if there is one.
 #[tactic(auto, unfolding(crate::specs::Fault::line_fault))]
-pub fn line_fault(known: &Known, m: Marks, line: &[u8], good: bool, ends: &[u16]) -> Result<(), Fault>
+pub fn line_fault(
+    known: &Known,
+    m: Marks,
+    line: &[u8],
+    good: bool,
+    ends: &[u16],
+) -> Result<(), Fault>
     requires { (good ≡ every line_byte line.now) × (length line.now ≤ line_limit → Looked line.now ends.now) }
     ensures { found result ≡ line_fault (names_in known.now) m line.now }
 {

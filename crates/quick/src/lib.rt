@@ -17,7 +17,7 @@ use store::Statement;
 
 // How many fields the line of a statement has, its word counted.
 fn field_count(w: StatementWord) -> usize
-    ensures { result ≡ (statement_lineup w).count + 1 }
+    ensures { result ≡ length (statement_lineup w) + 1 }
 {
     match w {
         StatementWord::Rel => 4,

@@ -4,11 +4,10 @@ use Rattle.field.specs.declared.Due.{Due}
 use Rattle.field.specs.declared.Due.TheVariants as due
 use Rattle.due.specs.declared.Lead.{Lead}
 use Rattle.due.specs.declared.Lead.TheVariants as lead
-use Rattle.field.specs.declared.Lineup.{Lineup}
 use Rattle.field.specs.declared.Operator.{Operator}
 use Rattle.field.specs.declared.Operator.TheVariants as operator
 use Rattle.due.specs.declared.Pending.{Pending}
-use Rattle.field.specs.Due.{dues, is_expr, wanted}
+use Rattle.field.specs.Due.{is_expr, wanted}
 
 -- more than the fields of any line: below it the walk counts what is due
 abbrev pub plenty : ℕ
@@ -27,8 +26,8 @@ abbrev pub before : Option Lead → ℕ → List Due → List Due
 before d m ds = leading d ++ (replicate m due.Expr ++ ds)
 
 -- what is still due
-abbrev pub pending : Lineup → Pending → List Due
-pending l p = before p.lead p.exprs (drop p.own (dues l))
+abbrev pub pending : List Due → Pending → List Due
+pending l p = before p.lead p.exprs (drop p.own l)
 
 -- what is due after a field with the word o, where the ds were due
 abbrev pub Stepped : List Due → Option Operator → List Due → Type 0
@@ -51,7 +50,7 @@ opening (Some operator.Bot) m own = record { lead = None; exprs = m; own = own }
 opening None m own = record { lead = None; exprs = m; own = own }
 
 -- one field more, with the word o: what is still due after it, and bounds
-pub record Step (l : Lineup) (p : Pending) (o : Option Operator) (r : Pending) : Type 0 where
+pub record Step (l : List Due) (p : Pending) (o : Option Operator) (r : Pending) : Type 0 where
   pub due : Stepped (pending l p) o (pending l r)
   pub exprs : r.exprs ≤ p.exprs + 2
   pub own : r.own ≤ p.own + 1

@@ -10,10 +10,6 @@ use Rattle.store.specs.Layout.{Fits, concept_limit, item_limit, large, role_limi
 use Rattle.field.specs.Names.{Names, reserved}
 use Rattle.field.specs.Words.{Field}
 
--- the most fields of a line-up
-abbrev pub lineup_limit : ℕ
-lineup_limit = 5
-
 -- how many tags, places and lengths an entry can tell, and how many entries have the same tag
 abbrev pub tag_count : ℕ
 tag_count = 2048

@@ -7,10 +7,10 @@ use Rattle.text.specs.Split.{fields}
 use Rattle.rule.specs.Form.{node_limit}
 use Rattle.field.specs.declared.Due.TheVariants as due
 use Rattle.field.specs.declared.Form.{Form}
-use Rattle.field.specs.declared.Lineup.{Lineup}
+use Rattle.field.specs.declared.Due.{Due}
 use Rattle.line.specs.declared.Marks.{Marks}
 use Rattle.line.specs.declared.Walked.{Walked}
-use Rattle.field.specs.Due.{dues, lineup_of, none}
+use Rattle.field.specs.Due.{lineup_of, none}
 use Rattle.line.specs.Fault.{ended, fields_fault, form_fault, full, line_fault, line_limit, unknown}
 use Rattle.field.specs.Names.{Names, fault, field_fault, lower_fault}
 use Rattle.field.specs.own.Line.{words_of}
@@ -83,12 +83,12 @@ module _ (n : Names) (m : Marks) (f : Form) (body : List Field) where
   form-fields e g = rw (e, g)
 
 -- what the walk along the fields after its words came to, of so many fields
-module _ (n : Names) (m : Marks) (f : Form) (fs : List Field) (count from k : ℕ) (l : Lineup) (w : Walked) (all : count ≡ length fs) (words : from ≡ words_of f) (after : k ≡ count - from)
-    (lined : l ≡ lineup_of f k) (walked : WalkedBy n (dues l) (drop from fs) w) where
+module _ (n : Names) (m : Marks) (f : Form) (fs : List Field) (count from k : ℕ) (l : List Due) (w : Walked) (all : count ≡ length fs) (words : from ≡ words_of f) (after : k ≡ count - from)
+    (lined : l ≡ lineup_of f k) (walked : WalkedBy n l (drop from fs) w) where
   abbrev body : List Field
   body = drop (words_of f) fs
 
-  along : WalkedBy n (dues (lineup_of f (length body))) body w
+  along : WalkedBy n (lineup_of f (length body)) body w
   along = let z : k ≡ length body = after ∙ rw (all, words) (sym (length-drop (words_of f) fs)) in rw (lined, z, words) at walked
 
   pub fields-wrong : not w.fits ≡ true → 14 ≡ fields_fault n m f body

@@ -12,7 +12,7 @@ use Rattle.field.specs.declared.Due.TheVariants as due
 use Rattle.field.specs.declared.Form.TheVariants as form
 use Rattle.field.specs.declared.StatementWord.{StatementWord}
 use Rattle.field.specs.declared.StatementWord.TheVariants as statement
-use Rattle.field.specs.Due.{dues, fits, is_expr, none, statement_lineup}
+use Rattle.field.specs.Due.{fits, is_expr, none, statement_lineup}
 use Rattle.field.specs.Names.{Names, counts_of, field_fault, field_faults, name_fault, nodes_in, plain}
 use Rattle.field.specs.Words.{at, Field, body_of, form_of}
 use Rattle.line.specs.declared.Marks.{Marks}
@@ -88,7 +88,7 @@ module _ (n : Names) where
 
   -- ---- the fields of a statement
 
-  statement-clear : Proper n → (w : StatementWord) (fs : List Field) → length fs ≡ (statement_lineup w).count → Within (counts_of n) (cell_of (statement_of n w fs)) → Clear n (dues (statement_lineup w)) fs
+  statement-clear : Proper n → (w : StatementWord) (fs : List Field) → length fs ≡ length (statement_lineup w) → Within (counts_of n) (cell_of (statement_of n w fs)) → Clear n (statement_lineup w) fs
   statement-clear p statement.In fs e h = clear-two due.Item due.Concept fs refl refl e (item-right p (at 0 fs) h.0) (concept-right p (at 1 fs) h.1)
   statement-clear p statement.Rel fs e h =
       clear-three due.Role due.Item due.Item fs refl refl refl e (role-right p (at 0 fs) h.0) (item-right p (at 1 fs) h.1) (item-right p (at 2 fs) h.2)
@@ -96,7 +96,7 @@ module _ (n : Names) where
   statement-clear p statement.Under fs e h = clear-two due.Concept due.Concept fs refl refl e (concept-right p (at 0 fs) h.0) (concept-right p (at 1 fs) h.1)
   statement-clear p statement.RoleUnder fs e h = clear-two due.RoleUse due.RoleUse fs refl refl e (role-use-right p (at 0 fs) h.0) (role-use-right p (at 1 fs) h.1)
 
-  fields-clear : (m : Marks) (w : StatementWord) (fs : List Field) → Clear n (dues (statement_lineup w)) fs → fields_fault n m (form.Statement w) fs ≡ 0
+  fields-clear : (m : Marks) (w : StatementWord) (fs : List Field) → Clear n (statement_lineup w) fs → fields_fault n m (form.Statement w) fs ≡ 0
   unfolding fields_fault
   fields-clear m w fs c = rw (c.fit, c.faults, c.nodes) (sym (lower-none 0 0 refl))
 
@@ -161,7 +161,7 @@ fit-two : (a b : Due) (fs : List Field) → is_expr a ≡ false → is_expr b �
 fit-two a b fs e g = fit-more a (b ∷ []) 1 fs e (λ gs. fit-more b [] 0 gs g fit_none)
 
 -- the fields of a statement are as many as its word wants
-statement-count : (w : StatementWord) (fs : List Field) → fits (dues (statement_lineup w)) fs ≡ true → length fs ≡ (statement_lineup w).count
+statement-count : (w : StatementWord) (fs : List Field) → fits (statement_lineup w) fs ≡ true → length fs ≡ length (statement_lineup w)
 statement-count statement.In fs = fit-two due.Item due.Concept fs refl refl
 statement-count statement.Rel fs = fit-more due.Role (due.Item ∷ due.Item ∷ []) 2 fs refl (λ gs. fit-two due.Item due.Item gs refl refl)
 statement-count statement.Same fs = fit-two due.Item due.Item fs refl refl
@@ -180,7 +180,7 @@ right-plainly n m line w z e =
 
 -- ---- the names of a line's fields
 
-count-some : (w : StatementWord) → 1 ≤ (statement_lineup w).count
+count-some : (w : StatementWord) → 1 ≤ length (statement_lineup w)
 count-some statement.In = omega arith
 count-some statement.Rel = omega arith
 count-some statement.Same = omega arith
@@ -188,7 +188,7 @@ count-some statement.Under = omega arith
 count-some statement.RoleUnder = omega arith
 
 -- another number of fields
-pub other-count : {n : Names} {line ends : List ℕ} (w : StatementWord) → Looked line ends → (length ends ≡ (statement_lineup w).count + 1 → ⊥) → (z : Statement) → ¬ Named n w (drop 1 (fields line)) z
+pub other-count : {n : Names} {line ends : List ℕ} (w : StatementWord) → Looked line ends → (length ends ≡ length (statement_lineup w) + 1 → ⊥) → (z : Statement) → ¬ Named n w (drop 1 (fields line)) z
 other-count {line = line} w v h z d = h (omega (arith, length-drop 1 (fields line), v.count, d.count, count-some w))
 
 -- the statement of a line's fields, with names that are all declared
@@ -197,7 +197,7 @@ named-within {sheet} {t} {y = y} q w is d =
     subst (λ (n : Counts). Within n (cell_of y)) (counts_of-names_of sheet t q) (subst (λ (u : Statement). Within (counts_of (names_of sheet t)) (cell_of u)) (d.is ∙ sym is) d.within)
 
 -- as many fields as there must be, with names that are all declared
-pub all_named : {sheet : List ℕ} {t : Table} {line ends : List ℕ} {z : Statement} → Tidy sheet t → (w : StatementWord) → Looked line ends → length ends ≡ (statement_lineup w).count + 1
+pub all_named : {sheet : List ℕ} {t : Table} {line ends : List ℕ} {z : Statement} → Tidy sheet t → (w : StatementWord) → Looked line ends → length ends ≡ length (statement_lineup w) + 1
     → z ≡ statement_of (names_of sheet t) w (drop 1 (fields line)) → Within t.counts (cell_of z) → Named (names_of sheet t) w (drop 1 (fields line)) z
 all_named {sheet} {t} {line} {z = z} y w v long is h =
     record { count = omega (arith, length-drop 1 (fields line), v.count, long); is = is; within = subst (λ (n : Counts). Within n (cell_of z)) (sym (counts_of-names_of sheet t y)) h }

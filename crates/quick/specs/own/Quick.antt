@@ -19,7 +19,7 @@ Finds P None = (z : Statement) → ¬ P z
 
 -- s is the statement of as many fields as its word wants, and all its names are declared
 pub record Named (n : Names) (w : StatementWord) (fs : List Field) (s : Statement) : Type 0 where
-  pub count : length fs ≡ (statement_lineup w).count
+  pub count : length fs ≡ length (statement_lineup w)
   pub is : s ≡ statement_of n w fs
   pub within : Within (counts_of n) (cell_of s)
 

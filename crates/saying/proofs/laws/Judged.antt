@@ -14,7 +14,7 @@ use Rattle.field.specs.declared.Due.{Due}
 use Rattle.field.specs.declared.Due.TheVariants as due
 use Rattle.field.specs.declared.RuleWord.{RuleWord}
 use Rattle.field.specs.declared.RuleWord.TheVariants as rule
-use Rattle.field.specs.Due.{chain_longest, chain_shortest, dues, fits, is_expr, rule_lineup}
+use Rattle.field.specs.Due.{chain_longest, chain_shortest, fits, is_expr, rule_lineup}
 use Rattle.field.specs.Names.{Names, counts_of, field_fault, nodes_in, plain}
 use Rattle.field.specs.Words.{at, Field}
 use Rattle.saying.specs.Read.{bare, laid, nodes_at, read_expr, rule_of, size, with_one, with_two}
@@ -130,7 +130,7 @@ module _ (n : Names) where
       (x.0, rw (at_next 0 fs) at y.0, rw (at_next 1 fs) at y.1, rw (at_next 2 fs) at y.2)
 
   -- a path of 2 to 4 roles, and the last
-  chain-rule-good : (fs : List Field) → Right n (dues (rule_lineup rule.Chain (length fs))) fs → Good (counts_of n) (rule_of n rule.Chain fs)
+  chain-rule-good : (fs : List Field) → Right n (rule_lineup rule.Chain (length fs)) fs → Good (counts_of n) (rule_of n rule.Chain fs)
   unfolding fits
   chain-rule-good [] r = absurd (true≢false (sym r.fit))
   chain-rule-good (a ∷ []) r = absurd (true≢false (sym r.fit))
@@ -157,7 +157,7 @@ module _ (n : Names) where
       absurd (true≢false (sym q))
 
   -- the rule that the fields of an accepted rule line say
-  pub rule-good : (w : RuleWord) (fs : List Field) → Right n (dues (rule_lineup w (length fs))) fs → nodes_in (dues (rule_lineup w (length fs))) fs ≤ node_limit → Good (counts_of n) (rule_of n w fs)
+  pub rule-good : (w : RuleWord) (fs : List Field) → Right n (rule_lineup w (length fs)) fs → nodes_in (rule_lineup w (length fs)) fs ≤ node_limit → Good (counts_of n) (rule_of n w fs)
   rule-good rule.Sub fs r s = sub-rule-good fs r s
   rule-good rule.RoleSub fs r s = let x = two_fields due.RoleUse due.RoleUse fs refl refl r in bare-good (counts_of n) _ tt (role-in fs 0 x.0, role-in fs 1 x.1)
   rule-good rule.Chain fs r s = chain-rule-good fs r

@@ -11,7 +11,7 @@ use Rattle.rule.specs.Form.{node_at, node_limit}
 use Rattle.field.specs.declared.Due.TheVariants as due
 use Rattle.field.specs.declared.RuleWord.{RuleWord}
 use Rattle.field.specs.declared.RuleWord.TheVariants as rule
-use Rattle.field.specs.Due.{chain_longest, chain_shortest, dues, fits, rule_lineup}
+use Rattle.field.specs.Due.{chain_longest, chain_shortest, fits, rule_lineup}
 use Rattle.field.specs.Names.{Names, nodes_in}
 use Rattle.field.specs.Words.{Field, at}
 use Rattle.saying.specs.Read.{laid, nodes_at, read_expr, rule_of, size, with_one, with_two}
@@ -74,7 +74,7 @@ module _ (n : Names) where
       one-meant (item_of n (at 0 (read_expr n fs).rest)) (read_expr n fs).expr (omega (arith, a.nodes))
 
   -- a path of 2 to 4 roles, and the last
-  chain-meant : (fs : List Field) → fits (dues (rule_lineup rule.Chain (length fs))) fs ≡ true → meaning_of (rule_of n rule.Chain fs) ≡ meant_by n rule.Chain fs
+  chain-meant : (fs : List Field) → fits (rule_lineup rule.Chain (length fs)) fs ≡ true → meaning_of (rule_of n rule.Chain fs) ≡ meant_by n rule.Chain fs
   unfolding fits
   chain-meant [] f = absurd (true≢false (sym f))
   chain-meant (a ∷ []) f = absurd (true≢false (sym f))
@@ -88,7 +88,7 @@ module _ (n : Names) where
       absurd (true≢false (sym q))
 
   -- the rule of an accepted rule line means what its fields mean
-  pub rule-meant : (w : RuleWord) (fs : List Field) → fits (dues (rule_lineup w (length fs))) fs ≡ true → nodes_in (dues (rule_lineup w (length fs))) fs ≤ node_limit → meaning_of (rule_of n w fs) ≡ meant_by n w fs
+  pub rule-meant : (w : RuleWord) (fs : List Field) → fits (rule_lineup w (length fs)) fs ≡ true → nodes_in (rule_lineup w (length fs)) fs ≤ node_limit → meaning_of (rule_of n w fs) ≡ meant_by n w fs
   rule-meant rule.Sub fs f small = sub-meant fs f small
   rule-meant rule.RoleSub fs f small = refl
   rule-meant rule.Chain fs f small = chain-meant fs f

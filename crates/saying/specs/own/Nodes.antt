@@ -6,7 +6,7 @@ use Rattle.rule.specs.Form.{node_limit}
 use Rattle.field.specs.declared.Due.{Due}
 use Rattle.field.specs.declared.Due.TheVariants as due
 use Rattle.field.specs.declared.RuleWord.{RuleWord}
-use Rattle.field.specs.Due.{dues as dues_of, fits, rule_lineup}
+use Rattle.field.specs.Due.{fits, rule_lineup}
 use Rattle.rule.specs.declared.Node.{Node}
 use Rattle.rule.specs.declared.Slot.{Slot}
 use Rattle.rule.specs.declared.Node.TheVariants as node
@@ -102,5 +102,5 @@ pub record Ready (fs : List Field) (len left : ℕ) : Type 0 where
 
 -- the fields after a rule word are those that are due, with no more nodes than a rule may have
 pub record RuleReady (w : RuleWord) (fs : List Field) : Type 0 where
-  pub fit : fits (dues_of (rule_lineup w (length fs))) fs ≡ true
-  pub room : nodes_in (dues_of (rule_lineup w (length fs))) fs ≤ node_limit
+  pub fit : fits (rule_lineup w (length fs)) fs ≡ true
+  pub room : nodes_in (rule_lineup w (length fs)) fs ≤ node_limit

@@ -12,7 +12,7 @@ use Rattle.field.specs.declared.Due.{Due}
 use Rattle.field.specs.declared.Due.TheVariants as due
 use Rattle.field.specs.declared.Form.{Form}
 use Rattle.line.specs.declared.Marks.{Marks}
-use Rattle.field.specs.Due.{dues, fits, lineup_of, next, none}
+use Rattle.field.specs.Due.{fits, lineup_of, next, none}
 use Rattle.line.specs.Fault.{ended, fields_fault, form_fault, full, headed, header_fault, line_fault, line_limit, room_by, sheet_limit, unknown}
 use Rattle.field.specs.Names.{Names, declared, fault, field_fault, field_faults, is_count, lower_fault, name_fault, new_fault, nodes_in, plain, reserved}
 use Rattle.field.specs.Words.{Field, body_of, form_of, section_of}
@@ -60,7 +60,6 @@ field-small n due.RoleUse f = name-small n.roles (plain f)
 field-small n due.AtLeast f = fault-small (not (is_count 1 8 f)) _ _ (omega arith) (omega arith)
 field-small n due.AtMost f = fault-small (not (is_count 0 7 f)) _ _ (omega arith) (omega arith)
 field-small n due.Expr f = fault-small (reserved f) _ _ (omega arith) (name-small n.concepts f)
-field-small n due.Nothing f = omega arith
 
 -- of fields
 faults-small : (n : Names) (ds : List Due) (fs : List Field) → field_faults n ds fs < 100
@@ -75,10 +74,10 @@ unfolding form_fault fields_fault
 form_small n m f body =
     fault-small (unknown (section_of f)) _ _ (omega arith)
     (fault-small (ended m (section_of f)) _ _ (omega arith)
-    (fault-small (not (fits (dues (lineup_of f (length body))) body)) _ _ (omega arith)
-    (lower-small _ _ (faults-small n (dues (lineup_of f (length body))) body)
+    (fault-small (not (fits (lineup_of f (length body)) body)) _ _ (omega arith)
+    (lower-small _ _ (faults-small n (lineup_of f (length body)) body)
     (fault-small (full m (section_of f)) _ _ (omega arith)
-    (fault-small (ltb node_limit (nodes_in (dues (lineup_of f (length body))) body)) _ _ (omega arith) (omega arith))))))
+    (fault-small (ltb node_limit (nodes_in (lineup_of f (length body)) body)) _ _ (omega arith) (omega arith))))))
 
 -- of a line after the first
 line_small : (n : Names) (m : Marks) (l : List ℕ) → line_fault n m l < 100

@@ -15,7 +15,7 @@ use Rattle.field.specs.declared.Form.TheVariants as form
 use Rattle.line.specs.declared.Marks.{Marks}
 use Rattle.field.specs.declared.RuleWord.{RuleWord}
 use Rattle.field.specs.declared.StatementWord.{StatementWord}
-use Rattle.field.specs.Due.{dues, is_expr, lineup_of, none}
+use Rattle.field.specs.Due.{is_expr, lineup_of, none}
 use Rattle.line.specs.Fault.{begun, rule_limit}
 use Rattle.field.specs.Names.{field_fault}
 use Rattle.field.specs.Words.{at, Field, body_of, form_of}
@@ -70,7 +70,7 @@ module _ {W : ℕ} {sheet : List ℕ} {t : Table} {m : Marks} {s : List ℕ} {st
 
   -- ---- declarations: one word, and one name
 
-  module _ (one_word : words_of f ≡ 1) (d : Due) (one : dues (lineup_of f (length (body_of (fields line)))) ≡ d ∷ []) (plain : is_expr d ≡ false) where
+  module _ (one_word : words_of f ≡ 1) (d : Due) (one : lineup_of f (length (body_of (fields line))) ≡ d ∷ []) (plain : is_expr d ≡ false) where
     named-at : at 0 (body_of (fields line)) ≡ at 1 (fields line)
     named-at = ap (at 0) (sym after-words) ∙ ap (λ (k : ℕ). at 0 (drop k (fields line))) one_word ∙ get_or-drop 1 (fields line) 0 []
 

@@ -9,7 +9,7 @@ use Rattle.field.specs.declared.Form.{Form}
 use Rattle.field.specs.declared.Form.TheVariants as form
 use Rattle.field.specs.declared.StatementWord.{StatementWord}
 use Rattle.field.specs.declared.StatementWord.TheVariants as statement
-use Rattle.field.specs.Due.{dues, is_expr, lineup_of}
+use Rattle.field.specs.Due.{is_expr, lineup_of}
 use Rattle.field.specs.Names.{Names, counts_of, field_fault}
 use Rattle.field.specs.Words.{at, Field, body_of, form_of}
 use Rattle.stated.specs.Stated.{statement_of}
@@ -31,7 +31,7 @@ module _ (n : Names) where
       let y = right-first n b [] (drop 1 fs) g x.1 in
       (x.0, rw (at-later 0 fs) at y.0)
 
-  pub statement-within : (w : StatementWord) (fs : List Field) → Right n (dues (lineup_of (form.Statement w) (length fs))) fs → Within (counts_of n) (cell_of (statement_of n w fs))
+  pub statement-within : (w : StatementWord) (fs : List Field) → Right n (lineup_of (form.Statement w) (length fs)) fs → Within (counts_of n) (cell_of (statement_of n w fs))
   statement-within statement.In fs r = let x = two-right due.Item due.Concept fs refl refl r in (item-declared n _ x.0, concept-declared n _ x.1)
   statement-within statement.Rel fs r =
       let x = right-first n due.Role (due.Item ∷ due.Item ∷ []) fs refl r in

@@ -9,7 +9,7 @@ use Rattle.field.specs.declared.Form.{Form}
 use Rattle.field.specs.declared.Form.TheVariants as form
 use Rattle.field.specs.declared.StatementWord.{StatementWord}
 use Rattle.field.specs.declared.StatementWord.TheVariants as statement
-use Rattle.field.specs.Due.{dues, fits, lineup_of}
+use Rattle.field.specs.Due.{fits, lineup_of}
 use Rattle.field.specs.Names.{Names}
 use Rattle.field.specs.Words.{Field, body_of, form_of, is_rule, line_form, rule_form}
 use Rattle.field.specs.laws.Right.{Right, right-first}
@@ -94,12 +94,12 @@ dropped : (fs : List Field) → 1 ≤ length (drop 1 fs) → 2 ≤ length fs
 dropped [] h = omega (arith, h)
 dropped (f ∷ fs) h = omega arith
 
-two_fields : (n : Names) (w : StatementWord) (fs : List Field) → Right n (dues (lineup_of (form.Statement w) (length fs))) fs → 2 ≤ length fs
+two_fields : (n : Names) (w : StatementWord) (fs : List Field) → Right n (lineup_of (form.Statement w) (length fs)) fs → 2 ≤ length fs
 two_fields n statement.In fs r = dropped fs (right-some n _ _ (drop 1 fs) (right-first n _ _ fs refl r).1)
 two_fields n statement.Rel fs r = dropped fs (right-some n _ _ (drop 1 fs) (right-first n _ _ fs refl r).1)
 two_fields n statement.Same fs r = dropped fs (right-some n _ _ (drop 1 fs) (right-first n _ _ fs refl r).1)
 two_fields n statement.Under fs r = dropped fs (right-some n _ _ (drop 1 fs) (right-first n _ _ fs refl r).1)
 two_fields n statement.RoleUnder fs r = dropped fs (right-some n _ _ (drop 1 fs) (right-first n _ _ fs refl r).1)
 
-pub line-long : (n : Names) (l : List ℕ) (w : StatementWord) → form_of (fields l) ≡ form.Statement w → Right n (dues (lineup_of (form.Statement w) (length (body_of (fields l))))) (body_of (fields l)) → 4 ≤ length l
+pub line-long : (n : Names) (l : List ℕ) (w : StatementWord) → form_of (fields l) ≡ form.Statement w → Right n (lineup_of (form.Statement w) (length (body_of (fields l)))) (body_of (fields l)) → 4 ≤ length l
 line-long n l w e r = omega (arith, first-long (fields l) w e, two_fields n w (body_of (fields l)) r, split-total 9 l)

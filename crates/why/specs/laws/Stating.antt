@@ -10,7 +10,7 @@ use Rattle.store.specs.Cell.{Within, cell_of}
 use Rattle.field.specs.declared.Form.{Form}
 use Rattle.field.specs.declared.Form.TheVariants as form
 use Rattle.field.specs.declared.StatementWord.{StatementWord}
-use Rattle.field.specs.Due.{dues, lineup_of, none}
+use Rattle.field.specs.Due.{lineup_of, none}
 use Rattle.line.specs.Fault.{begun, line_fault, line_limit}
 use Rattle.field.specs.Names.{Names, counts_of}
 use Rattle.sheet.specs.Said.{Outcome, Said, SheetStatement, line_said, marks_of, nothing, outcome, outcome_from, saying}
@@ -110,7 +110,7 @@ module _ {sheet : List ℕ} {t : Table} {x : Said} {done : List SheetStatement} 
           }
 
       -- what the line has as an accepted one
-      right-word : Right p.said.names (dues (lineup_of (form.Statement w) (length (body_of (fields l))))) (body_of (fields l))
+      right-word : Right p.said.names (lineup_of (form.Statement w) (length (body_of (fields l)))) (body_of (fields l))
       right-word = let a = (line-accepted p.said.names (marks_of p.said) l (statement-some l w f) stepped.0).1 in (rw f at a).right
 
       -- its numbers are below their counts

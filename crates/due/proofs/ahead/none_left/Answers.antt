@@ -3,5 +3,5 @@ use Rattle.std.proofs.Common.{arith}
 use Rattle.due.specs.laws.Due.{none-own}
 use Rattle.due.proofs.ahead.none_left.Goals as goal
 
-pub returns-else-p-ge-MOST : goal.returns-else-p-ge-MOST
-returns-else-p-ge-MOST c = let x = c.args in none-own x.l x.p c.in-None.is (omega arith) c.if-p-ge-MOST.false
+pub returns-then-p-eq0 : goal.returns-then-p-eq0
+returns-then-p-eq0 c = let x = c.args in none-own x.l.now x.p c.in-None.is (omega arith)

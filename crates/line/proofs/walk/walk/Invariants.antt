@@ -1,6 +1,5 @@
 -- `line::walk::walk` meets its contract. Assumes nothing.
 use Rattle.std.proofs.Common.{◌≤◌, ◌*◌, drop}
-use Rattle.field.specs.Due.{dues}
 use Rattle.field.specs.own.Known.{fields_in, names_in}
 use Rattle.due.specs.own.Pending.{pending}
 use Rattle.line.specs.own.Number.{found}
@@ -9,4 +8,4 @@ use Rattle.line.proofs.walk.walk.Given as goal
 
 abbrev pub invariant-loop-k : goal.invariant-loop-k
 invariant-loop-k l = (l.p.exprs ≤ 2 * l.k) × (l.p.own ≤ l.k) × (l.nodes ≤ 4 * l.k)
-    × Along (names_in l.known) (dues l.l) (pending l.l l.p) (drop l.from (fields_in l.fields)) (drop l.k (fields_in l.fields)) (found l.fault) l.nodes
+    × Along (names_in l.known) l.l (pending l.l l.p) (drop l.from (fields_in l.fields)) (drop l.k (fields_in l.fields)) (found l.fault) l.nodes
