@@ -74,6 +74,10 @@ module _ (n : Names) (all : List Field) (from : ℕ) where
       unfolding Reader
       begun-sub = read_right n (length fs) (due.Expr ∷ []) fs (omega arith) r.fit
 
+      -- the second expression can be read
+      pub sub-ready : Ready (drop p.at all) p.len j
+      sub-ready = rw (rest, read-first.rest) (record { dues = []; fit = begun-sub.fit; room = omega (arith, len-first, begun-sub.nodes, r.room); enough = omega arith })
+
       begun-second : Begun [] first.rest (read_expr n first.rest).rest (size (read_expr n first.rest).expr)
       unfolding Reader
       begun-second = read_right n (length first.rest) [] first.rest (omega arith) begun-sub.fit
