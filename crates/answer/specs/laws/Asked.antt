@@ -65,6 +65,11 @@ line_field q = field_from q (past_field q 0)
 abbrev pub name_field : List ℕ → Field
 name_field q = field_from q (past_field q (past_field q 0))
 
+-- the finding of the item a, by the names of the rule's sides
+abbrev pub asked_by : ℕ → Option Sides → Option FindingAsked
+asked_by a (Some t) = Some (record { item = a; left = t.left; right = t.right })
+asked_by a None = None
+
 module _ (W : ℕ) (n : Counts) (x : Said) (s q : List ℕ) where
   -- a line that has not three fields asks for no finding
   pub finding-short : (length (fields q) ≡ 3 → ⊥) → FindingIf W n x s q None
@@ -108,6 +113,10 @@ module _ (W : ℕ) (n : Counts) (x : Said) (s q : List ℕ) where
         let u = second_is v.asks.is in
         let h : i ≡ (item_of names (name_field q)).0 = v.asks.item ∙ ap (λ (m : Names). (item_of m v.asks.name).0) same_names ∙ ap (λ (l : Field). (item_of names l).0) (sym u.1) in
         w c d (subst (λ (j : ℕ). BrokenIn W n x s (line_field q) j c d) (sym e) (found-not h v))
+
+    pub finding-sides : (t : Option Sides) (a : ℕ) → a ≡ (item_of names (name_field q)).0 → SidesIf W n x s (line_field q) a t → FindingIf W n x s q (asked_by a t)
+    finding-sides (Some t) a e z = finding-some t a e z
+    finding-sides None a e z = finding-no a e z
 
 -- ---- the rules of the sheet, one after the other
 

@@ -1,6 +1,7 @@
 -- Laws of statements added one after the other: a closed store stays closed, so one test is enough. Assumes nothing.
-use Rattle.std.specs.Prelude.{◌≡◌, refl, List, ℕ, suc, zero, ◌+◌, ◌/◌, ◌<◌, min, ℤ, pos, length, get_or, set}
+use Rattle.std.specs.Prelude.{◌≡◌, refl, List, ℕ, suc, zero, ◌+◌, ◌/◌, ◌≤◌, ◌<◌, min, ℤ, pos, length, get_or, set}
 use Rattle.std.proofs.Common.{sym, ap, ◌∙◌, subst, add-one, arith, length-set, get_or-set_same, get_or-set_other}
+use Rattle.std.proofs.Math.Decide.{ℕ_discrete}
 use Rattle.logic.specs.Lowest.{Lowest}
 use Rattle.row.specs.Bit.{Words}
 use Rattle.store.specs.declared.Counts.{Counts}
@@ -76,7 +77,35 @@ answered-more {n} {xs} {b = b} {s} {t} {u} {i} {r} d l y w = record {
     earlier : InTurn n xs (set b i r) s i t
     earlier = same-answers (λ j h. sym (get_or-set_other b i j r (pos 0) (λ e. omega arith))) d.added
 
+-- after the last
+pub answered-done : {n : Counts} {xs : List ℕ} {a b : List ℤ} {s t : List ℕ} {i k : ℕ} → Answered n xs a b s t i → i ≤ k → k ≤ i → Answered n xs a b s t k
+answered-done {n} {xs} {a} {b} {s} {t} {i} {k} d h l = let e : i ≡ k = omega arith in subst (λ (j : ℕ). Answered n xs a b s t j) e d
+
 -- ---- answers that are all alike
+
+-- before the first
+pub filled_none : (r : ℤ) (a : List ℤ) → Filled r 0 a a
+filled_none r a = record { long = refl; first = λ i l. absurd (omega arith); past = λ i l. refl }
+
+-- one more
+pub filled_more : {r : ℤ} {i : ℕ} {a b : List ℤ} → Filled r i a b → i < length b → Filled r (i + 1) a (set b i r)
+filled_more {r} {i} {a} {b} d l = record {
+  long = length-set b i r ∙ d.long;
+  first = λ j h. at j h (ℕ_discrete j i);
+  past = λ j h. get_or-set_other b i j r (pos 0) (λ e. omega arith) ∙ d.past j (omega arith);
+}
+  where
+    at : (j : ℕ) → j < i + 1 → Dec (j ≡ i) → get_or (set b i r) j (pos 0) ≡ r
+    at j h (yes e) = rw e (get_or-set_same b i r (pos 0) l)
+    at j h (no e) = get_or-set_other b i j r (pos 0) e ∙ d.first j (omega arith)
+
+-- after the last
+pub filled-done : {r : ℤ} {i k : ℕ} {a b : List ℤ} → Filled r i a b → i ≤ k → k ≤ i → Filled r k a b
+filled-done d h l = record { long = d.long; first = λ j m. d.first j (omega arith); past = λ j m. d.past j (omega arith) }
+
+-- the same answer, written otherwise
+pub filled_at : {r q : ℤ} {k : ℕ} {a b : List ℤ} → r ≡ q → Filled r k a b → Filled q k a b
+filled_at e d = rw (← e) d
 
 -- where every statement is refused alike, nothing changes
 refused-turns : {n : Counts} {s : List ℕ} {a : List ℤ} (j : Refusal) (xs : List ℕ) (k : ℕ) → ((c : Cell) → Lowest (AddFault (width_of s) n c s) (number j)) → Words 64 s

@@ -1,5 +1,5 @@
 -- Laws of writing: one for each step of the compiler. Assumes nothing.
-use Rattle.std.specs.Prelude.{◌≡◌, refl, Bool, true, false, List, [], ◌∷◌, ◌++◌, ℕ, zero, suc, ◌+◌, ◌*◌, ◌-◌, ◌/◌, ◌<◌, ◌≤◌, length}
+use Rattle.std.specs.Prelude.{◌≡◌, refl, Bool, true, false, List, [], ◌∷◌, ◌++◌, ℕ, zero, suc, ◌+◌, ◌*◌, ◌-◌, ◌/◌, ◌<◌, ◌≤◌, length, take}
 use Rattle.std.proofs.Common.{sym, ap, subst, subst₂, ◌∙◌, suc-mul, pos_of_ne-zero, sub-one, arith, length-append}
 use Rattle.std.proofs.Math.Nat.{mul-div_cancel_left}
 use Rattle.std.proofs.Math.Seq.{length-sets}
@@ -17,7 +17,7 @@ use Rattle.body.specs.declared.Cursor.{Cursor}
 use Rattle.body.specs.Body.{first_item, Atom, eq, Body, end, atom, ◌⊕◌, flat}
 use Rattle.body.specs.Translation.{link_way, link, variables, turns, news, apart, pairs, of_expr, path, without}
 use Rattle.body.specs.Length.{length_of}
-use Rattle.body.specs.own.Writing.{Wrote, RoomFor, Roomy, Written, RoomyTurns, Turned, RoomyApart, Parted, RoomyPairs, Paired, RoomyPath, Pathed}
+use Rattle.body.specs.own.Writing.{SmallRole, SmallPath, Wrote, RoomFor, Roomy, Written, RoomyTurns, Turned, RoomyApart, Parted, RoomyPairs, Paired, RoomyPath, Pathed}
 use Rattle.body.specs.laws.Body.{flat-⊕, size-⊕, length-flat}
 use Rattle.body.specs.laws.Length.{size-expr, size-apart-news, size-pairs-news, size-turns-expr}
 
@@ -278,6 +278,26 @@ least-done l l₁ l₂ c c₁ c₂ t n s R e z p q =
     record { wrote = subst₂ (Wrote l l₂ c c₂) (sym (flat-⊕ (turns (of_expr e) R (variables e + 1) n t c.next) (pairs (news (variables e + 1) n c.next)))) (omega arith) all }
 
 -- ---- the path of a chain
+
+abbrev first_roles : ℕ → RoleUse → RoleUse → RoleUse → RoleUse → List RoleUse
+first_roles k r1 r2 r3 r4 = take k (r1 ∷ r2 ∷ r3 ∷ r4 ∷ [])
+
+-- without the first role, which a later place can stand for
+shifted : (k : ℕ) (r1 r2 r3 r4 : RoleUse) → ¬ (k ≡ 1) → 1 ≤ k → k ≤ 4 → first_roles k r1 r2 r3 r4 ≡ r1 ∷ first_roles (k - 1) r2 r3 r4 r4
+shifted zero r1 r2 r3 r4 ne l h = absurd (omega arith)
+shifted (suc zero) r1 r2 r3 r4 ne l h = absurd (ne refl)
+shifted (suc (suc zero)) r1 r2 r3 r4 ne l h = refl
+shifted (suc (suc (suc zero))) r1 r2 r3 r4 ne l h = refl
+shifted (suc (suc (suc (suc zero)))) r1 r2 r3 r4 ne l h = refl
+shifted (suc (suc (suc (suc (suc k))))) r1 r2 r3 r4 ne l h = absurd (omega arith)
+
+path-first : (rs : List RoleUse) (r : RoleUse) (t v : ℕ) → 1 ≤ length rs → flat (path (r ∷ rs) t v) ≡ flat (atom (link r t v) end) ++ flat (path rs v (v + 1))
+path-first [] r t v l = absurd (omega arith)
+path-first (q ∷ rs) r t v l = flat-link r t v (path (q ∷ rs) v (v + 1))
+
+small-first : (k : ℕ) (r1 r2 r3 r4 : RoleUse) → 1 ≤ k → SmallPath (first_roles k r1 r2 r3 r4) → SmallRole r1
+small-first zero r1 r2 r3 r4 l h = absurd (omega arith)
+small-first (suc k) r1 r2 r3 r4 l h = h.0
 
 pub path-none : (l : List ℕ) (c : Cursor) (t : ℕ) → Pathed l l c c t []
 path-none l c t = record { wrote = nothing l c }

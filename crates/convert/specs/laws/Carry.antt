@@ -5,8 +5,8 @@ use Rattle.std.proofs.Common.{sym, ap, ◌∙◌, arith, length-append, length-t
 use Rattle.std.proofs.lemmas.List.{get_or_append_left, get_or-append_right}
 use Rattle.std.proofs.lemmas.Bool.{lt-ltb, le-ltb}
 use Rattle.row.specs.own.Change.{Mapped}
-use Rattle.row.specs.laws.Mapped.{mapped-append, mapped-done, mapped-pass, mapped-same}
-use Rattle.row.specs.laws.Rows.{place, row_lt, row_next, row_within}
+use Rattle.row.specs.laws.Mapped.{mapped-append, mapped-done, mapped-none, mapped-pass, mapped-same}
+use Rattle.row.specs.laws.Rows.{place, row_last, row_lt, row_next, row_within}
 use Rattle.store.specs.declared.Counts.{Counts}
 use Rattle.store.specs.declared.Layout.{Layout}
 use Rattle.store.specs.Layout.{Fits, item_limit, role_limit}
@@ -14,6 +14,11 @@ use Rattle.store.specs.own.Laid.{Laid}
 use Rattle.convert.specs.own.Carry.{BlocksMoved, RowsMoved, Strided, block_f, copy_f, row_f, rows_f, stride_f}
 
 -- ---- a copied word
+
+-- as the loop writes it
+pub copy-here : (s : List ℕ) (from to h w v : ℕ) → v ≡ get_or s (from + h) 0 → v ≡ copy_f s from to (to + h) w
+unfolding copy_f
+copy-here s from to h w v e = let d : to + h - to ≡ h = omega arith in e ∙ rw d refl
 
 -- as it is read
 pub copy-word : (s : List ℕ) (from to h i w : ℕ) → i ≡ to + h → copy_f s from to i w ≡ get_or s (from + h) 0
@@ -66,6 +71,10 @@ module _ (f : ℕ → ℕ → ℕ → ℕ) (to step words x h i w : ℕ) (e : i 
       let d : i - (to + x * step) ≡ h = omega arith in
       rw (q.0, q.1, d, le-ltb h words k) refl
 
+-- before the first
+pub stride-none : (f : ℕ → ℕ → ℕ → ℕ) (to step words : ℕ) (t : List ℕ) → Strided f to step words 0 t t
+stride-none f to step words t = record { mapped = mapped-done (mapped-none _ _ _) (omega arith) (omega arith) }
+
 -- one stretch more
 pub stride-more : {f : ℕ → ℕ → ℕ → ℕ} {to step words x b : ℕ} {t u v : List ℕ} → Strided f to step words x t u → b ≡ to + x * step → words ≤ step → Mapped (f x) b (b + words) u v
     → Strided f to step words (x + 1) t v
@@ -79,6 +88,10 @@ stride-more {f} {to} {step} {words} {x} {b} m e l a =
 
     off : (j : ℕ) → b + words ≤ j → j < to + (x + 1) * step → (w : ℕ) → w ≡ stride_f f to step words j w
     off j hj lj w = let q = row_next x step in sym (stride-off f to step words x (j - b) j w (omega arith) (omega arith) (omega arith))
+
+-- after the last
+pub stride-done : {f : ℕ → ℕ → ℕ → ℕ} {to step words x count : ℕ} {t u : List ℕ} → Strided f to step words x t u → x ≤ count → count ≤ x → Strided f to step words count t u
+stride-done {step = step} {x = x} {count} m h l = let q = row_last x count step h l in record { mapped = mapped-done m.mapped (omega arith) (omega arith) }
 
 module _ {f : ℕ → ℕ → ℕ → ℕ} {to step words count : ℕ} {t u : List ℕ} (m : Strided f to step words count t u) (x h i : ℕ) (lx : x < count) (lh : h < step) (e : i ≡ to + x * step + h) where
   -- word h of stretch x

@@ -1,6 +1,6 @@
 -- The lines whose names are all declared, of which there are as many as there must be, are the statements with nothing wrong. Assumes nothing.
-use Rattle.std.specs.Prelude.{◌≡◌, true, false, not, List, [], ◌∷◌, ℕ, ◌+◌, ◌≤◌, ◌<◌, drop, length, Option, Some, None}
-use Rattle.std.proofs.Common.{refl, sym, ◌∙◌, subst, true≢false, arith, length-drop, le-ltb, lt-ltb, ltb-false}
+use Rattle.std.specs.Prelude.{◌≡◌, Bool, true, false, not, List, [], ◌∷◌, ℕ, ◌+◌, ◌≤◌, ◌<◌, drop, length, Option, Some, None}
+use Rattle.std.proofs.Common.{refl, sym, ap, ◌∙◌, subst, true≢false, arith, length-drop, le-ltb, lt-ltb, ltb-false}
 use Rattle.text.specs.Bytes.{every, place}
 use Rattle.text.specs.Name.{is_name, line_byte}
 use Rattle.text.specs.Split.{fields}
@@ -9,6 +9,7 @@ use Rattle.store.specs.declared.Statement.{Statement}
 use Rattle.store.specs.Cell.{Within, cell_of}
 use Rattle.field.specs.declared.Due.{Due}
 use Rattle.field.specs.declared.Due.TheVariants as due
+use Rattle.field.specs.declared.Form.{Form}
 use Rattle.field.specs.declared.Form.TheVariants as form
 use Rattle.field.specs.declared.StatementWord.{StatementWord}
 use Rattle.field.specs.declared.StatementWord.TheVariants as statement
@@ -125,6 +126,24 @@ module _ (n : Names) where
 pub finds-same : {P Q : Statement → Type 0} (r : Option Statement) → ((z : Statement) → P z → Q z) → ((z : Statement) → Q z → P z) → Finds P r → Finds Q r
 finds-same (Some s) f g q = f s q
 finds-same None f g q = λ z d. q z (g z d)
+
+-- where none is as P says, none is to be found
+pub finds-none : {P : Statement → Type 0} {r : Option Statement} → r ≡ None → ((z : Statement) → ¬ P z) → Finds P r
+finds-none {P} u h = subst (λ (o : Option Statement). Finds P o) (sym u) h
+
+-- the form is that of a statement
+abbrev pub states : Form → Bool
+states form.Concept = false
+states form.Role = false
+states form.Item = false
+states (form.Statement w) = true
+states (form.Rule w) = false
+states form.Bare = false
+states form.Unknown = false
+
+-- a line of another form says no statement
+pub other-form : (n : Names) (m : Marks) (line : List ℕ) {f : Form} {r : Option Statement} → r ≡ None → f ≡ form_of (fields line) → states f ≡ false → Finds (Stated n m line) r
+other-form n m line u is h = finds-none u (λ z d. true≢false (sym (ap states (is ∙ d.form)) ∙ h))
 
 module _ {n : Names} {m : Marks} {line : List ℕ} where
   -- an empty line is none

@@ -1,5 +1,5 @@
 -- Laws of statements as numbers. Assumes nothing.
-use Rattle.std.specs.Prelude.{◌≡◌, refl, ℕ, ◌+◌, ◌*◌, ◌/◌, ◌%◌, ◌≤◌, ◌<◌}
+use Rattle.std.specs.Prelude.{◌≡◌, refl, Bool, true, false, ℕ, ◌+◌, ◌*◌, ◌/◌, ◌%◌, ◌≤◌, ◌<◌}
 use Rattle.std.proofs.Common.{ap, arith, ne_eqb}
 use Rattle.store.specs.declared.Counts.{Counts}
 use Rattle.store.specs.declared.Statement.{Statement}
@@ -7,7 +7,7 @@ use Rattle.store.specs.Cell.{Cell, Within, cell_of}
 use Rattle.store.specs.Cell.Cell.{Same, Under, RoleUnder, In, Link}
 use Rattle.store.specs.Layout.{Fits}
 use Rattle.store.specs.own.Laid.{widest}
-use Rattle.reason.specs.own.Code.{Small, SmallCell, cell_at, cell_by}
+use Rattle.reason.specs.own.Code.{Small, SmallCell, cell_at, cell_by, role_kind}
 
 -- the cell of a number made of parts
 pub cell-number : (k n a b r : ℕ) → n < 8 → a < 512 → b < 512 → k ≡ n + 8 * a + 4096 * b + 2097152 * r → cell_at k ≡ cell_by n a b r
@@ -30,6 +30,15 @@ cell-kind k n e = ap (λ (m : ℕ). cell_by m (k / 8 % 512) (k / 4096 % 512) (k 
 pub cell-link : (k : ℕ) → ¬ (k % 8 ≡ 0) → ¬ (k % 8 ≡ 1) → ¬ (k % 8 ≡ 2) → ¬ (k % 8 ≡ 3) → ¬ (k % 8 ≡ 4) → cell_at k ≡ Link (k / 2097152) (k / 8 % 512) (k / 4096 % 512)
 unfolding cell_at
 cell-link k a b c d e = rw (ne_eqb (k % 8) 0 a, ne_eqb (k % 8) 1 b, ne_eqb (k % 8) 2 c, ne_eqb (k % 8) 3 d, ne_eqb (k % 8) 4 e) refl
+
+-- the numbers of steps from role to role
+pub cell-role : {n : ℕ} (u : Bool) (a b r : ℕ) → n ≡ role_kind u → cell_by n a b r ≡ RoleUnder a u b
+cell-role true a b r e = rw e refl
+cell-role false a b r e = rw e refl
+
+pub role-kind-small : {n : ℕ} (u : Bool) → n ≡ role_kind u → n < 8
+role-kind-small true e = omega arith
+role-kind-small false e = omega arith
 
 within-cell : {W : ℕ} {n : Counts} (c : Cell) → W ≤ widest → Within n c → Fits W n → SmallCell c
 within-cell (Same a b) h w f = (omega (arith, w.0, f.items, h), omega (arith, w.1, f.items, h))

@@ -1,5 +1,5 @@
 -- Statements kept as numbers.
-use Rattle.std.specs.Prelude.{true, false, cond, List, ℕ, ◌/◌, ◌%◌, ◌<◌, eqb}
+use Rattle.std.specs.Prelude.{Bool, true, false, cond, List, ℕ, ◌/◌, ◌%◌, ◌<◌, eqb}
 use Rattle.logic.specs.Number.{One}
 use Rattle.store.specs.declared.Counts.{Counts}
 use Rattle.store.specs.declared.Statement.{Statement}
@@ -13,6 +13,11 @@ cell_by k a b r = cond (eqb k 0) (Same a b) (cond (eqb k 1) (Under a b) (cond (e
 -- the cell that a number states: its kind in the lowest three bits, then nine bits for each of its numbers
 unfoldable pub cell_at : ℕ → Cell
 cell_at k = cell_by (k % 8) (k / 8 % 512) (k / 4096 % 512) (k / 2097152)
+
+-- the kind of a step from role to role, by its sign
+abbrev pub role_kind : Bool → ℕ
+role_kind false = 2
+role_kind true = 3
 
 -- the cells that the numbers state
 pub data Coded (codes : List ℕ) : Cell → Type 0 where

@@ -4,6 +4,7 @@ use Rattle.std.specs.Prelude.{◌≡◌, map, ℕ, zero, suc, ◌+◌, ◌<◌, 
 use Rattle.std.proofs.Common.{refl, sym, ◌∙◌, ap, add-zero, set-set, List, [], ◌∷◌, ◌++◌, append_assoc, add-one, arith, length, length-append}
 use Rattle.std.proofs.lemmas.List.{length-map, map-append, set_comm}
 use Rattle.std.proofs.lemmas.List.Edits.{sets}
+use Rattle.std.proofs.Math.Seq.{length-sets}
 use Rattle.logic.specs.laws.Sets.{sets-append}
 use Rattle.rule.specs.declared.Node.{Node}
 use Rattle.rule.specs.declared.Node.TheVariants as node
@@ -35,6 +36,26 @@ sets-set l i (suc j) v (a ∷ vs) h = let z : i + suc j ≡ suc i + j = omega ar
 -- two runs of nodes, one after the other
 pub slots-both : (room : List Slot) (i k : ℕ) (xs ys : List Node) → k ≡ i + length xs → sets (sets room i (map slot xs)) k (map slot ys) ≡ sets room i (map slot (xs ++ ys))
 slots-both room i k xs ys e = rw (e, map-append slot xs ys, sets-append room i (map slot xs) (map slot ys), length-map xs slot)
+
+module _ {room : List Slot} {len : ℕ} where
+  pub put-none : {exit : List Slot} → exit ≡ room → PutAll room len [] exit len
+  put-none e = record { here = e; count = omega arith }
+
+  module _ {xs : List Node} {exit : List Slot} {r : ℕ} where
+    pub put-long : PutAll room len xs exit r → length exit ≡ length room
+    put-long p = ap length p.here ∙ length-sets room len (map slot xs)
+
+    -- the same nodes, and the same room
+    pub put_as : {ys : List Node} → xs ≡ ys → PutAll room len xs exit r → PutAll room len ys exit r
+    put_as e p = rw e at p
+
+    pub put-after : {new : List Slot} → room ≡ new → PutAll room len xs exit r → PutAll new len xs exit r
+    put-after e p = rw e at p
+
+    -- more nodes after them
+    pub put-more : {ys : List Node} {last : List Slot} {s : ℕ} → PutAll room len xs exit r → PutAll exit r ys last s → PutAll room len (xs ++ ys) last s
+    put-more {ys} {last} {s} p q =
+        record { here = q.here ∙ rw p.here (slots-both room len r xs ys p.count); count = omega (arith, p.count, q.count, length-append xs ys) }
 
 -- ---- what a word writes
 

@@ -1,8 +1,9 @@
 -- Laws of reading one expression into nodes, word by word. Assumes nothing.
 use Rattle.std.specs.Prelude.{Option, Some, None}
 use Rattle.std.specs.Prelude.{◌≡◌, refl, true, List, [], ◌∷◌, ◌++◌, map, ℕ, zero, suc, ◌+◌, ◌-◌, ◌≤◌, ◌<◌, drop, length}
-use Rattle.std.proofs.Common.{sym, ◌∙◌, true≢false, arith, length-append, length-drop, drop-drop}
+use Rattle.std.proofs.Common.{sym, ◌∙◌, ap, true≢false, arith, length-append, length-drop, drop-drop}
 use Rattle.std.proofs.lemmas.List.Edits.{sets}
+use Rattle.std.proofs.Math.Seq.{length-sets}
 use Rattle.rule.specs.declared.Node.TheVariants as node
 use Rattle.rule.specs.declared.Slot.{Slot}
 use Rattle.rule.specs.Form.{node_limit}
@@ -18,7 +19,7 @@ use Rattle.field.specs.Names.{Names, nodes_in, nodes_of}
 use Rattle.saying.specs.own.Nodes.{Joined, PutAll, ReadsOne, Ready, children_of, head_fields, head_nodes}
 use Rattle.saying.specs.Read.{Read, by_word, nodes_at, read, size, slot}
 use Rattle.field.specs.Words.{at, Field, operator_of}
-use Rattle.saying.specs.laws.Nodes.{drop-later, front, join-nodes, leaf-nodes, nodes-length, one-nodes, slots-both, two-nodes}
+use Rattle.saying.specs.laws.Nodes.{drop-later, front, join-nodes, leaf-nodes, nodes-length, one-nodes, put-long, slots-both, two-nodes}
 use Rattle.saying.specs.laws.Read.{Begun, Reader, drop-two, plain-field, read_right}
 
 -- the first word of an expression, and what it wants
@@ -252,6 +253,9 @@ module _ (n : Names) (all : List Field) (left : ℕ) (p : Parsed) (o : Option Op
           joined : PutAll room p.len (front n more p.len fs o first.expr) both s.len
           joined = join-nodes n more p.len fs room o first.expr exit r.len both s.len e first-nodes first-len j
 
+          pub joined-long : length both ≡ length room
+          joined-long = put-long joined
+
           second-rest : drop s.at all ≡ first.rest
           second-rest = rw same first_rest
 
@@ -280,6 +284,10 @@ ready-some fs len left rd z = omega (arith, (first_word rd.dues fs rd.fit).2, rd
 
 pub ready-inside : (fs : List Field) (k : ℕ) {len left : ℕ} → Ready (drop k fs) len left → k < length fs
 ready-inside fs k rd = omega (arith, (first_word rd.dues (drop k fs) rd.fit).2, length-drop k fs)
+
+-- reading leaves the room as long as it was
+pub reads-long : {n : Names} {fs : List Field} {left : ℕ} {p : Parsed} {room exit : List Slot} {r : Parsed} → ReadsOne n fs left p room exit r → length exit ≡ length room
+reads-long {n} {fs} {left} {p} {room} d = ap length d.nodes ∙ length-sets room p.len (map slot (nodes_at p.len (read left n (drop p.at fs)).expr))
 
 -- neither none nor one: two
 pub two-else : (o : Option Operator) → (children_of o ≡ 0 → ⊥) → (children_of o ≡ 1 → ⊥) → children_of o ≡ 2

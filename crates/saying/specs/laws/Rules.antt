@@ -5,6 +5,7 @@ use Rattle.rule.specs.declared.Head.TheVariants as head
 use Rattle.rule.specs.declared.Node.{Node}
 use Rattle.rule.specs.declared.RoleUse.{RoleUse}
 use Rattle.rule.specs.declared.Slot.{Slot}
+use Rattle.rule.specs.Form.{node_limit}
 use Rattle.store.specs.declared.Item.{Item}
 use Rattle.field.specs.declared.Due.TheVariants as due
 use Rattle.saying.specs.declared.Parsed.{Parsed}
@@ -43,6 +44,53 @@ module _ (n : Names) (all : List Field) (from : ℕ) where
 
   abbrev first : Read
   first = read_expr n fs
+
+  pub in-first : RuleReady rule.In fs → (k : ℕ) → k ≡ length fs → Ready fs 0 k
+  in-first r k e = record { dues = due.Item ∷ []; fit = r.fit; room = omega (arith, r.room); enough = omega arith }
+
+  pub sub-first : RuleReady rule.Sub fs → (k : ℕ) → k ≡ length fs → Ready fs 0 k
+  sub-first r k e = record { dues = due.Expr ∷ []; fit = r.fit; room = omega (arith, r.room); enough = omega arith }
+
+  -- the first expression is read, into whatever room: the nodes are no more than a rule may have
+  module _ (room nodes : List Slot) (p : Parsed) (k : ℕ) (count : k ≡ length fs) (c : ReadsOne n all k (start from) room nodes p) where
+    read-first : ReadsOne n all (length fs) (start from) room nodes p
+    read-first = rw count at c
+
+    len-first : p.len ≡ size first.expr
+    len-first = omega (arith, read-first.len)
+
+    -- of `in`
+    module _ (r : RuleReady rule.In fs) where
+      begun-in : Begun (due.Item ∷ []) fs first.rest (size first.expr)
+      unfolding Reader
+      begun-in = read_right n (length fs) (due.Item ∷ []) fs (omega arith) r.fit
+
+      pub in-room : p.len ≤ node_limit
+      in-room = omega (arith, len-first, begun-in.nodes, r.room)
+
+    -- of `sub`
+    module _ (r : RuleReady rule.Sub fs) (j : ℕ) (rest : j ≡ length (drop p.at all)) where
+      begun-sub : Begun (due.Expr ∷ []) fs first.rest (size first.expr)
+      unfolding Reader
+      begun-sub = read_right n (length fs) (due.Expr ∷ []) fs (omega arith) r.fit
+
+      -- the second expression can be read
+      pub sub-ready : Ready (drop p.at all) p.len j
+      sub-ready = rw (rest, read-first.rest) (record { dues = []; fit = begun-sub.fit; room = omega (arith, len-first, begun-sub.nodes, r.room); enough = omega arith })
+
+      begun-second : Begun [] first.rest (read_expr n first.rest).rest (size (read_expr n first.rest).expr)
+      unfolding Reader
+      begun-second = read_right n (length first.rest) [] first.rest (omega arith) begun-sub.fit
+
+      module _ (exit : List Slot) (q : Parsed) (d : ReadsOne n all j p nodes exit q) where
+        read-second : ReadsOne n all (length first.rest) p nodes exit q
+        read-second = rw (rest, read-first.rest) at d
+
+        len-second : q.len ≡ p.len + size (read_expr n first.rest).expr
+        len-second = read-second.len ∙ rw read-first.rest
+
+        pub sub-room : q.len ≤ node_limit
+        sub-room = omega (arith, len-second, len-first, begun-sub.nodes, begun-second.nodes, r.room)
 
   -- the first expression is read
   module _ (nodes : List Slot) (p : Parsed) (k : ℕ) (count : k ≡ length fs) (c : ReadsOne n all k (start from) blank nodes p) where

@@ -16,3 +16,7 @@ first-from fs k = let z : k ≡ k + 0 = omega arith in rw (get_or-drop k fs 0 []
 -- how many they are, by the ends of the fields
 pub rest-count : {line ends : List ℕ} (from : ℕ) {r : ℕ} → Looked line ends → r ≡ length ends - from → r ≡ length (drop from (fields line))
 rest-count {line} {ends} from {r} l e = omega (arith, l.count, length-drop from (fields line))
+
+-- what is made of the same three parts is the same
+pub ap₃ : {A B C D : Type 0} (f : A → B → C → D) {a b : A} {c d : B} {e g : C} → a ≡ b → c ≡ d → e ≡ g → f a c e ≡ f b d g
+ap₃ f p q r = rw (p, q, r)

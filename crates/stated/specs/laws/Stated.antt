@@ -1,8 +1,10 @@
 -- Laws of the statement of a line: its fields, and its numbers, which are below their counts where nothing is wrong. Assumes nothing.
-use Rattle.std.specs.Prelude.{◌≡◌, refl, false, List, [], ◌∷◌, ℕ, suc, length, drop}
+use Rattle.std.specs.Prelude.{◌≡◌, refl, Bool, false, List, [], ◌∷◌, ℕ, suc, length, drop}
 use Rattle.std.proofs.Common.{sym, ◌∙◌, arith}
 use Rattle.text.specs.Split.{fields}
-use Rattle.store.specs.Cell.{Within, cell_of}
+use Rattle.store.specs.Cell.{Within, cell_of, turn}
+use Rattle.store.specs.declared.Statement.TheVariants as stated
+use Rattle.rule.specs.declared.RoleUse.{RoleUse}
 use Rattle.field.specs.declared.Due.{Due}
 use Rattle.field.specs.declared.Due.TheVariants as due
 use Rattle.field.specs.declared.Form.{Form}
@@ -19,6 +21,11 @@ use Rattle.field.specs.laws.Right.{Right, concept-declared, item-declared, right
 -- the fields of a statement after its word
 pub statement-body : (l : List ℕ) (w : StatementWord) → form_of (fields l) ≡ form.Statement w → drop 1 (fields l) ≡ body_of (fields l)
 statement-body l w e = rw e at (body-words (fields l) (λ u. let z : ◌≡◌ {A = Form} form.Unknown (form.Statement w) = sym u ∙ e in let q : ◌≡◌ {A = ℕ} 0 1 = cc in omega arith))
+
+-- a role under another
+pub role-under-is : {a b c d : RoleUse} {t : Bool} → t ≡ turn a.inverse b.inverse → a ≡ c → b ≡ d
+    → stated.RoleUnder a.role t b.role ≡ stated.RoleUnder c.role (turn c.inverse d.inverse) d.role
+role-under-is e p q = rw (e, p, q)
 
 module _ (n : Names) where
   at-later : (i : ℕ) (fs : List Field) → at i (drop 1 fs) ≡ at (suc i) fs

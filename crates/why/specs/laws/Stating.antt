@@ -148,6 +148,10 @@ passing-start W sheet t x e ends o n =
     let z = accepted-start W sheet x o in
     record { said = nothing z.0; names = n; statements = refl; rest = rw ends z.2; short = z.1; inside = omega (arith, ends, end-le 10 sheet 0 zero-le); near = omega arith }
 
+-- what comes next lies within the sheet
+pub next-inside : {sheet : List ℕ} {t : Table} {at k : ℕ} {q : StatementLine} → Next sheet t at k (Some q) → Paused sheet t at k → q.past ≤ length sheet + 2
+next-inside n p = let v = n.statement p.all p.before p.passing in omega (arith, v.0.inside)
+
 -- ---- going through the statements
 
 -- the second reading stands past n statements, of which P holds
@@ -171,11 +175,18 @@ module _ {sheet : List ℕ} {t : Table} {x : Said} {P : List SheetStatement → 
     turn_end z = subst P (sym (z.statement x w.done w.passing)) w.holds
 
     module _ {q : StatementLine} (z : Next sheet t at k (Some q)) where
+      turn-both : Passing sheet t x (w.done ++ found_statement q ∷ []) q.past (q.line + 1) × Within (counts_of x.names) (cell_of q.statement)
+      turn-both = z.statement x w.done w.passing
+
       pub turn-passing : Passing sheet t x (w.done ++ found_statement q ∷ []) q.past (q.line + 1)
-      turn-passing = (z.statement x w.done w.passing).0
+      turn-passing = turn-both.0
 
       pub turn-within : Within (counts_of x.names) (cell_of q.statement)
-      turn-within = (z.statement x w.done w.passing).1
+      turn-within = turn-both.1
+
+      -- where the second reading stands then
+      pub turn-past : Paused sheet t q.past (q.line + 1)
+      turn-past = record { all = x; before = w.done ++ found_statement q ∷ []; passing = turn-passing }
 
       -- the next turn
       pub turn-next : {Q : List SheetStatement → Type 0} → Q (w.done ++ found_statement q ∷ []) → Turn sheet t x Q q.past (q.line + 1) (n + 1)
