@@ -7,12 +7,14 @@ ghost use Rattle.convert.specs.own.Carry.{BlocksMoved, Carried, RowsMoved, copy_
 
 use store::{Counts, Layout, Store};
 
-// The `count` words of s at `from` are copied to t, at `to`.
+// The `count` words of s at `from` are copied to t, at `to`. No `copy_from_slice`: for the library for C it would need `memmove`.
 fn copy(s: &[u64], from: usize, t: &mut [u64], to: usize, count: usize)
     requires { (from + count ≤ length s.now) × (to + count ≤ length t.old) }
     ensures { Mapped (copy_f s.now from to) to (to + count) t.old t.new }
 {
-    t[to..to + count].copy_from_slice(&s[from..from + count]);
+    for h in 0..count {
+        t[to + h] = s[from + h];
+    }
 }
 
 // The `count` rows of s at `from`, of `old` words each, go to the rows of t at `to`, of `new` words each, as far as these reach.

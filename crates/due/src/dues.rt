@@ -1,23 +1,16 @@
 ghost use Rattle.std.specs.Prelude.{◌≡◌, max, min, slice_get};
 ghost use Rattle.field.specs.Due.{chain as chain_dues, chain_longest, chain_shortest, statement_lineup, rule_lineup, lineup_of, is_expr};
 
-use field::{Due, Form, RuleWord, StatementWord};
-use rule::Rule;
+use field::{Due, Form, Lineup, RuleWord, StatementWord};
 
 // The roles of the longest chain: those of its path, and the one that the path is under.
-const CHAIN: &[Due] = &[
-    Due::RoleUse,
-    Due::RoleUse,
-    Due::RoleUse,
-    Due::RoleUse,
-    Due::RoleUse,
-];
+const CHAIN: &[Due] = &[Due::RoleUse; Lineup::MOST];
 
 // How many roles a chain has, in a line with so many fields.
 fn chain_count(n: usize) -> usize
     ensures { result ≡ max chain_shortest (min n chain_longest) }
 {
-    n.min(Rule::LONGEST + 1).max(Rule::SHORTEST + 1)
+    n.min(Lineup::CHAIN_LONGEST).max(Lineup::CHAIN_SHORTEST)
 }
 
 // The roles of a chain, in a line with so many fields.
@@ -66,7 +59,7 @@ pub fn lineup(f: Form, n: usize) -> &'static [Due]
         Form::Statement(w) => statement(w),
         Form::Rule(w) => rule(w, n),
         Form::Bare => &[Due::Expr],
-        Form::Unknown => &[],
+        Form::Unknown => &[Due::Nothing],
     }
 }
 

@@ -1,7 +1,7 @@
 -- What is due in the fields of a line, and whether there are too few fields or too many.
 use Rattle.std.specs.Prelude.{Option, Some, None, Bool, true, false, cond, List, [], ◌∷◌, ◌++◌, ℕ, min, max, ◌+◌, take}
 use Rattle.field.specs.declared.Due.{Due}
-use Rattle.field.specs.declared.Due.TheVariants.{NewConcept, NewRole, NewItem, Concept, Role, Item, RoleUse, AtLeast, AtMost, Expr}
+use Rattle.field.specs.declared.Due.TheVariants.{NewConcept, NewRole, NewItem, Concept, Role, Item, RoleUse, AtLeast, AtMost, Expr, Nothing}
 use Rattle.field.specs.declared.Form.{Form}
 use Rattle.field.specs.declared.Form.TheVariants as form
 use Rattle.field.specs.declared.Operator.{Operator}
@@ -54,7 +54,7 @@ lineup_of form.Item n = NewItem ∷ []
 lineup_of (form.Statement w) n = statement_lineup w
 lineup_of (form.Rule w) n = rule_lineup w n
 lineup_of form.Bare n = Expr ∷ []
-lineup_of form.Unknown n = []
+lineup_of form.Unknown n = Nothing ∷ []
 
 -- what a word of an expression wants after it
 abbrev pub wanted : Option Operator → List Due
@@ -83,6 +83,7 @@ is_expr RoleUse = false
 is_expr AtLeast = false
 is_expr AtMost = false
 is_expr Expr = true
+is_expr Nothing = false
 
 -- what is due after the field f, in which d was due before the ds: where that was an expression, first what its word wants
 abbrev pub next : Due → Field → List Due → List Due

@@ -8,7 +8,7 @@ use Rattle.store.specs.Layout.{concept_limit, role_limit}
 use Rattle.store.specs.declared.Counts.{Counts}
 use Rattle.rule.specs.Form.{count_limit}
 use Rattle.field.specs.declared.Due.{Due}
-use Rattle.field.specs.declared.Due.TheVariants.{NewConcept, NewRole, NewItem, Concept, Role, Item, RoleUse, AtLeast, AtMost, Expr}
+use Rattle.field.specs.declared.Due.TheVariants.{NewConcept, NewRole, NewItem, Concept, Role, Item, RoleUse, AtLeast, AtMost, Expr, Nothing}
 use Rattle.field.specs.declared.Operator.{Operator}
 use Rattle.field.specs.declared.Operator.TheVariants as operator
 use Rattle.field.specs.Due.{is_expr, next}
@@ -72,6 +72,7 @@ field_fault n RoleUse f = name_fault n.roles (plain f)
 field_fault n AtLeast f = fault (not (is_count 1 count_limit f)) 20 0
 field_fault n AtMost f = fault (not (is_count 0 (count_limit - 1) f)) 20 0
 field_fault n Expr f = cond (reserved f) 0 (name_fault n.concepts f)
+field_fault n Nothing f = 0
 
 -- the lower of two numbers of refusal; 0 is none
 unfoldable pub lower_fault : ℕ → ℕ → ℕ

@@ -93,6 +93,21 @@ pub enum Due {
     AtMost,
     // A word of an expression, or a concept.
     Expr,
+    // No field: what an unknown word has in the place of its one field.
+    Nothing,
+}
+
+// What is due in the fields of a line, as many as a list of them has.
+#[derive(Drop)]
+pub struct Lineup {}
+
+impl Lineup {
+    // The most fields.
+    pub const MOST: usize = 5;
+    // The fewest and the most roles of a chain: those of its path, and the one that the path is under.
+    pub const CHAIN_SHORTEST: usize = Rule::SHORTEST + 1;
+
+    pub const CHAIN_LONGEST: usize = Rule::LONGEST + 1;
 }
 
 // The numbers lent for the names of a sheet: first the hints, which say where to look for a name first; then for each name an entry, which holds its tag (made of its last two bytes), its place in the sheet and its length. All but the items are as many in every table, so the items come last.

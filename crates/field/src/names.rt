@@ -5,7 +5,7 @@ ghost use Rattle.text.specs.Bytes.{place, same};
 ghost use Rattle.field.specs.Names.{inverted as inverted_of, plain as plain_of, count_of};
 ghost use Rattle.text.specs.own.Split.{part_of};
 ghost use Rattle.field.specs.own.Known.{names_in};
-ghost use Rattle.field.specs.own.Table.{Hinted, Placed, concepts_from, entered, hint_at, hint_count, key_of, length_count, name_at, number_count, place_count, tag_count, tag_of};
+ghost use Rattle.field.specs.own.Table.{Hinted, Placed, concepts_from, entered, hint_at, hint_count, key_of, length_count, name_at, number_count, place_count, room_at, room_of, tag_count, tag_of};
 
 use crate::Table;
 use crate::known::Known;
@@ -82,6 +82,14 @@ pub fn hint_at(from: usize, w: &[u8]) -> usize
     (key(w) + from) % Table::KEYS
 }
 
+// How many items the sheet's edition has room for, by the numbers lent for its names.
+pub fn room(names: &[u32]) -> usize
+    requires { room_at < length names.now }
+    ensures { result ≡ room_of names.now }
+{
+    names[Table::ROOM] as usize
+}
+
 impl<'a> Known<'a> {
     // The place of the name w among the n names whose entries begin at a place; n where it is none of them. Without a hint it is none of them; the place that the hint says, one less than it, is only tried first.
     fn find(&self, from: usize, n: usize, w: &[u8]) -> usize
@@ -124,7 +132,7 @@ impl<'a> Known<'a> {
     pub fn room(&self) -> usize
         ensures { result ≡ (names_in self.now).room }
     {
-        self.numbers[Table::ROOM] as usize
+        room(self.numbers)
     }
 }
 

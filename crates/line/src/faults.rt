@@ -150,6 +150,7 @@ pub fn field(known: &Known, d: Due, f: &[u8]) -> Result<(), Fault>
         Due::AtLeast => count(f, 1, Rule::COUNT),
         Due::AtMost => count(f, 0, Rule::COUNT - 1),
         Due::Expr => expr(known, f),
+        Due::Nothing => Ok(()),
     }
 }
 

@@ -21,7 +21,7 @@ fn blank() -> [Slot; Rule::NODES]
 }
 
 // A rule without expressions.
-fn bare(head: Head) -> Rule
+pub fn bare(head: Head) -> Rule
     ensures { result ≡ bare_rule head }
 {
     Rule {

@@ -17,9 +17,9 @@ pub fn put_all(room: &mut [u8], at: usize, bytes: &[u8]) -> usize
     requires { (at < 1000000) × (length bytes.now ≤ 100000) }
     ensures { Wrote room.old at bytes.now room.new result }
 {
-    if at < room.len() {
-        let n = bytes.len().min(room.len() - at);
-        room[at..at + n].copy_from_slice(&bytes[..n]);
+    let n = bytes.len().min(room.len().saturating_sub(at));
+    for i in 0..n {
+        room[at + i] = bytes[i];
     }
     at + bytes.len()
 }

@@ -114,6 +114,10 @@ module _ (n : Names) (f : Field) where
   unfolding field_fault
   most-count = refl
 
+  pub nothing-due : 0 ≡ field_fault n due.Nothing f
+  unfolding field_fault
+  nothing-due = refl
+
 -- ---- the lower of two
 
 module _ (a b : ℕ) where

@@ -60,6 +60,7 @@ field-small n due.RoleUse f = name-small n.roles (plain f)
 field-small n due.AtLeast f = fault-small (not (is_count 1 8 f)) _ _ (omega arith) (omega arith)
 field-small n due.AtMost f = fault-small (not (is_count 0 7 f)) _ _ (omega arith) (omega arith)
 field-small n due.Expr f = fault-small (reserved f) _ _ (omega arith) (name-small n.concepts f)
+field-small n due.Nothing f = omega arith
 
 -- of fields
 faults-small : (n : Names) (ds : List Due) (fs : List Field) → field_faults n ds fs < 100

@@ -1,18 +1,19 @@
 -- `text::write::put_all` meets its contract. Assumes nothing.
-use Rattle.std.proofs.Common.{◌≡◌, ◌+◌, ◌-◌, refl, sym, ◌∙◌, arith, drop-drop}
-use Rattle.text.specs.laws.Text.{sets-copied, sets-past}
-use Rattle.text.proofs.write.put_all.Goals.{then-at-room, else-at-room}
+use Rattle.std.specs.Prelude.{◌≡◌, ◌+◌, refl}
+use Rattle.std.proofs.Common.{sym, ◌∙◌, arith, length-set}
+use Rattle.text.specs.laws.Text.{sets-done, sets-on}
 use Rattle.text.proofs.write.put_all.Goals as goal
 
+pub loop-i-init : goal.loop-i-init
+loop-i-init c = let k : c.args.at ≡ c.args.at + 0 = omega arith in (refl, rw (← k))
+
+pub loop-i-preserved : goal.loop-i-preserved
+loop-i-preserved c = let v = c.loop-i in
+    (length-set v.room _ _ ∙ v.invariant.0, v.invariant.1 ∙ sets-on _ _ _ v.i (omega arith))
+
 pub returns : goal.returns
-returns c =
-    let x = c.args in
+returns c = let v = c.loop-i in
     record {
-      here = elim c.if-at-room.branch [
-        | then-at-room w ↦
-            let k : x.at + w.min-n.result - x.at ≡ w.min-n.result = omega arith in
-            w.room-is ∙ rw (k, w.copy_from_slice.ensures.after, drop-drop w.min-n.result x.at x.room.now) (sym (sets-copied x.room.now x.bytes.now x.at w.min-n.result (omega arith) w.min-n.ensures))
-        | else-at-room w ↦ w.room-is ∙ sym (sets-past x.bytes.now x.room.now x.at w.if-at-room.false)
-      ];
+      here = sym (v.invariant.1 ∙ sets-done _ _ _ v.i (omega (arith, v.invariant.0)));
       next = refl;
     }
