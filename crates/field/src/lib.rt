@@ -98,7 +98,7 @@ pub enum Due {
 }
 
 // What is due in the fields of a line, as many as a list of them has.
-#[derive(Drop)]
+#[derive(Clone, Copy)]
 pub struct Lineup {}
 
 impl Lineup {
